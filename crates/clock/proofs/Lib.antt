@@ -1,0 +1,3 @@
+pub mod Choices
+pub mod Products
+pub mod MomentLaws
