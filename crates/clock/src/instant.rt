@@ -7,6 +7,7 @@ ghost use Rattle.clock.specs.Durations.{clamp, duration, noneIf};
 ghost use Rattle.clock.specs.Moments.{wrap, plus, gap, before, due, rest, earlier, later, moment};
 use crate::duration::Duration;
 use crate::duration::MaybeDuration;
+use crate::product::WORD;
 
 pub struct Instant {
     pub millis: u32,
@@ -30,7 +31,7 @@ impl Instant {
         ensures { λ r. ⌜ r ≡ moment (wrap (1000 * secs)) ⌝ }
     {
         Instant {
-            millis: ((1000 * (secs as u64)) % 4294967296) as u32,
+            millis: ((1000 * (secs as u64)) % WORD) as u32,
         }
     }
 

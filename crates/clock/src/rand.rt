@@ -3,6 +3,7 @@ ghost use mathlib.Core.Path.{_≡_};
 ghost use Rattle.clock.specs.Generator.{nextState, outputOf, generator, drawn32, drawn16};
 ghost use Prim.Native.Nat.{_/_, _%_, _^_};
 ghost use lib.Bits.{bitXor};
+use crate::product::WORD;
 use crate::product::wrapping_mul_u64;
 
 const MULTIPLIER: u64 = 0xbb2efcec3c39611d;
@@ -73,7 +74,7 @@ fn output(state: u64) -> u32
     ensures { λ r. ⌜ r ≡ outputOf state ⌝ }
 {
     let shift = 29 - (state >> 61);
-    ((state >> shift) % 4294967296) as u32
+    ((state >> shift) % WORD) as u32
 }
 
 fn halves_joined(n: u32) -> u16

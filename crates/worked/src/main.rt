@@ -1,11 +1,17 @@
 // Document 01's worked examples that are not marked ★, run and printed; the file stdout has what the paper says.
 use libc::STDOUT_FILENO;
 
+mod grid;
 mod time;
 
 fn main() {
     io::write_all(STDOUT_FILENO, b"src/time.rs\n");
     time::examples();
+    io::write_all(
+        STDOUT_FILENO,
+        b"src/time.rs and src/rand.rs as the Rust answers\n",
+    );
+    grid::all();
 }
 
 // A line: what was asked, and the number that came.
