@@ -1,4 +1,4 @@
--- One poll's view of time: document 01's "The waking moment is the earliest open deadline, at most 86,400,000 ms on."
+-- The clock of a single poll: document 01's "The waking moment is the earliest open deadline, at most 86,400,000 ms on."
 use Prim.Native.Nat.{ℕ}
 use mathlib.Core.Bool.{true, false}
 use Rattle.clock.specs.Choice.{if_then_else_}
@@ -11,21 +11,21 @@ use Rattle.clock.specs.declared.clock.TimerSet.{TimerSet}
 abbrev pub day : ℕ
 day = 86400000
 
--- The clock of a poll at a moment: no deadline counts yet.
+-- The clock of a poll at a moment that has gathered no deadline.
 unfoldable pub clockAt : ℕ → Clock
 clockAt now = record { now = moment now; next = moment (plus now day) }
 
--- The clock once one more deadline counts. Wrapped moments have no order, so the order of counting matters.
-unfoldable pub counting : Clock → ℕ → Clock
-counting c deadline = record { now = c .now; next = moment (earlier (c .next .millis) deadline) }
+-- The clock once it has gathered one more. `earlier` is not associative, so the order of gathering matters.
+unfoldable pub gathering : Clock → ℕ → Clock
+gathering c deadline = record { now = c .now; next = moment (earlier (c .next .millis) deadline) }
 
--- Whether a timer has fired; the deadline of one that has not counts.
+-- Whether a deadline has come; one that has not is gathered.
 unfoldable pub expiredAt : Clock → ℕ → Expired
 expiredAt c deadline =
     if due deadline (c .now .millis) then record { expired = true; clock = c }
-    else record { expired = false; clock = counting c deadline }
+    else record { expired = false; clock = gathering c deadline }
 
--- A timer set a wait from now: its deadline counts.
+-- A deadline set a wait from now, and gathered.
 unfoldable pub timerAfter : Clock → ℕ → TimerSet
 timerAfter c wait =
-    record { deadline = moment (plus (c .now .millis) wait); clock = counting c (plus (c .now .millis) wait) }
+    record { deadline = moment (plus (c .now .millis) wait); clock = gathering c (plus (c .now .millis) wait) }

@@ -1,36 +1,38 @@
-// One poll's view of time: when the poll runs, and the earliest timer due after that. Asking whether a timer has
-// fired also counts one that has not towards the next deadline, so the answer and the deadline can't disagree. The
-// next deadline is never later than 24 hours from the poll. A method that changes the clock hands it back.
+// The clock of a single poll. It has the poll's moment and gathers deadlines; the earliest of them is when the next poll
+// is wanted, at most 24 hours on. A deadline that is asked about and has not come is gathered by the asking itself, so that
+// none is forgotten. A method that changes the clock hands it back.
 ghost use mathlib.Core.Path.{_≡_};
-ghost use Rattle.clock.specs.Clocks.{clockAt, counting, expiredAt, timerAfter};
+ghost use Rattle.clock.specs.Clocks.{clockAt, gathering, expiredAt, timerAfter};
 use crate::duration::Duration;
 use crate::instant::Instant;
 
-// How far ahead the next deadline can be: polling at least this often keeps every moment that a client holds
-// comparable with the present one.
+// Polls no further apart than this leave the moments that a client holds well within 2^31 ms of the present, where they
+// compare truly.
 const MAX_POLL_DELAY: Duration = Duration {
     millis: 24 * 60 * 60 * 1000,
 };
 
 pub struct Clock {
-    // When the poll runs.
+    // The poll's own moment.
     pub now: Instant,
-    // The earliest deadline counted.
+    // When the next poll is wanted, by the deadlines gathered so far.
     pub next: Instant,
 }
 
+// Whether a deadline has come, and the clock after the question.
 pub struct Expired {
     pub expired: bool,
     pub clock: Clock,
 }
 
+// A deadline that was set, and the clock after it.
 pub struct TimerSet {
     pub deadline: Instant,
     pub clock: Clock,
 }
 
 impl Clock {
-    // The clock of a poll at now, with no timer counted yet.
+    // A poll at now that has gathered nothing: the next one is wanted a day on.
     pub fn new(now: Instant) -> Clock
         ensures { λ r. ⌜ r ≡ clockAt (now .millis) ⌝ }
     {
@@ -52,8 +54,8 @@ impl Clock {
         self.next
     }
 
-    // Whether a timer set for deadline has fired. It fires at its deadline: else a poll made just then would ask to be
-    // polled again at once, for ever.
+    // Whether a deadline has come. It has at its very moment: had it not, that poll would want another there and then, and
+    // so would that one.
     pub fn expired(self, deadline: Instant) -> Expired
         ensures { λ r. ⌜ r ≡ expiredAt self (deadline .millis) ⌝ }
     {
@@ -70,9 +72,9 @@ impl Clock {
         }
     }
 
-    // Counts a timer that is not asked about in this poll.
+    // Gathers a deadline without asking about it.
     pub fn schedule(self, deadline: Instant) -> Clock
-        ensures { λ r. ⌜ r ≡ counting self (deadline .millis) ⌝ }
+        ensures { λ r. ⌜ r ≡ gathering self (deadline .millis) ⌝ }
     {
         let now = self.now;
         let next = self.next;
@@ -82,7 +84,7 @@ impl Clock {
         }
     }
 
-    // Sets a timer delay from now, and counts it.
+    // Sets a deadline so long from now, and gathers it.
     pub fn after(self, delay: Duration) -> TimerSet
         ensures { λ r. ⌜ r ≡ timerAfter self (delay .millis) ⌝ }
     {

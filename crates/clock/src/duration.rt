@@ -1,5 +1,5 @@
-// Relative time. Constructors and arithmetic saturate at Duration::MAX, which keeps every timer well within the
-// range where two moments compare correctly.
+// Lengths of time in milliseconds. What is made or added up here stops at Duration::MAX, so that no deadline lies too far
+// off to be compared with the present.
 ghost use mathlib.Core.Path.{_≡_};
 ghost use Prim.Native.Nat.{_+_, _*_, _-_, _/_, _%_, min, max};
 ghost use lib.Dec.{ltb, eqb};
@@ -20,7 +20,7 @@ pub enum MaybeDuration {
 impl Duration {
     pub const ZERO: Duration = Duration { millis: 0 };
 
-    // The longest duration: 2^30 ms, about 12.4 days.
+    // 2^30 ms: some twelve days.
     pub const MAX: Duration = Duration { millis: 1 << 30 };
 
     // So many milliseconds, at most MAX.

@@ -1,6 +1,6 @@
-// Points in time, counted in milliseconds from an arbitrary start. The count wraps every 2^32 ms, about 49.7 days;
-// to make one from a wider timestamp, keep its lowest 32 bits. Comparisons go by the sign of the wrapped difference:
-// of two moments less than 2^31 ms apart the earlier is before the other, also where the count wrapped in between.
+// Moments: the lowest 32 bits of a count of milliseconds since some start, so that they begin anew after seven weeks. Which
+// of two is before the other goes by the sign of their wrapped difference. That is the true order while they lie less than
+// 2^31 ms apart.
 ghost use mathlib.Core.Path.{_≡_};
 ghost use Prim.Native.Nat.{_*_, _/_, _%_};
 ghost use Rattle.clock.specs.Durations.{clamp, duration, noneIf};
@@ -17,7 +17,7 @@ pub struct Instant {
 const HALF: u32 = 1 << 31;
 
 impl Instant {
-    // The starting point.
+    // The start.
     pub const ZERO: Instant = Instant { millis: 0 };
 
     pub fn from_millis(millis: u32) -> Instant
@@ -26,7 +26,7 @@ impl Instant {
         Instant { millis }
     }
 
-    // Wraps as the moment itself does.
+    // So many seconds after the start.
     pub fn from_secs(secs: u32) -> Instant
         ensures { λ r. ⌜ r ≡ moment (wrap (1000 * secs)) ⌝ }
     {
@@ -77,7 +77,9 @@ impl Instant {
     pub fn is_before(self, other: Instant) -> bool
         ensures { λ r. ⌜ r ≡ before (self .millis) (other .millis) ⌝ }
     {
-        let gap = wrapped_gap(self.millis, other.millis);
+        let a = self.millis;
+        let b = other.millis;
+        let gap = wrapped_gap(a, b);
         HALF <= gap
     }
 

@@ -20,4 +20,5 @@ pub use instant::Instant;
 pub use rand::Drawn16;
 pub use rand::Drawn32;
 pub use rand::Rand;
+pub use rand::draw;
 pub use waits::Waits;

@@ -4,13 +4,13 @@ ghost use Rattle.clock.specs.Waits.{standardWaits};
 use crate::duration::Duration;
 
 pub struct Waits {
-    // How long to wait for an OFFER before the next Discover.
+    // From one Discover to the next.
     pub discover_timeout: Duration,
-    // How long to wait for an ACK after the first Request of Requesting. Doubles at every second try.
+    // After each of the first two Requests of Requesting; twice that after each of the next two, and so on.
     pub initial_request_timeout: Duration,
-    // How many Requests to send before going back to discovery.
+    // The Requests of Requesting, before the client discovers anew.
     pub request_retries: u16,
-    // The shortest wait between two Requests of Renewing.
+    // At least this lies between two Requests of Renewing, unless the rebind moment comes first.
     pub min_renew_timeout: Duration,
 }
 

@@ -1,5 +1,5 @@
-// Every function of `clock` at each pair of fifteen numbers round the limits, a line for a pair, as the Rust answers them:
-// oracle/clock prints the same lines from src/time.rs and src/rand.rs. A duration is made of its number by from_millis,
+// What `clock` answers at each pair of fifteen numbers round the limits, a line for a pair and a column for an answer:
+// oracle/clock gets the same lines from the Rust. A duration is made of its number by from_millis, as the Rust makes it,
 // and the generator's seed has the first number in its upper half.
 use clock::Clock;
 use clock::Duration;
@@ -27,6 +27,30 @@ const NUMBERS: [u32; 15] = [
 ];
 
 pub fn all() {
+    header();
+    pairs();
+}
+
+fn header() {
+    io::write_all(
+        STDOUT_FILENO,
+        b"a,b,Instant::from_secs,as_secs,subsec_millis,+,-,<,<=,checked_duration_since,",
+    );
+    io::write_all(
+        STDOUT_FILENO,
+        b"duration_since,min,max,Duration::from_secs,as_secs,subsec_millis,is_zero,checked_add,",
+    );
+    io::write_all(
+        STDOUT_FILENO,
+        b"checked_sub,saturating_add,saturating_sub,checked_mul,checked_div,saturating_mul,abs_diff,",
+    );
+    io::write_all(
+        STDOUT_FILENO,
+        b"min,max,Clock::now,next,schedule,expired,next,after,next,Rand::rand_u32,rand_u16,state\n",
+    );
+}
+
+fn pairs() {
     let mut n = 0;
     while n < 225 {
         pair(NUMBERS[n / 15], NUMBERS[n % 15]);

@@ -1,7 +1,7 @@
 use Prim.Native.Nat.{_≤_, _-_}
 use borrow.Author.Needs.{needs}
-use Rattle.worked.proofs.grid.all.Statement.{statement}
-use Rattle.worked.proofs.grid.all.Tie as tie
+use Rattle.worked.proofs.grid.pairs.Statement.{statement}
+use Rattle.worked.proofs.grid.pairs.Tie as tie
 
 abbrev Inv-loop : tie.InvT-loop
 Inv-loop n₀ n = n ≤ 225
@@ -39,8 +39,8 @@ loop-again c = search needs
 returns : tie.Need-returns Inv-loop μ-loop
 returns c = search needs
 
-pub all-spec : {M : Type 1} → statement M
-all-spec =
+pub pairs-spec : {M : Type 1} → statement M
+pairs-spec =
     tie.close
     (tie.spec
     Inv-loop
