@@ -1,12 +1,15 @@
-// The examples of "src/time.rs", and the waits of "Polling".
+// The examples of "src/time.rs" with what they leave out at its limits, and the waits of "Polling".
 use crate::line;
 use crate::test;
 use clock::Duration;
 use clock::Instant;
+use clock::MaybeDuration;
 use clock::Waits;
+use libc::STDOUT_FILENO;
 
 pub fn examples() {
     durations();
+    beyond_longest();
     half_way_round();
     waits();
 }
@@ -16,6 +19,39 @@ fn durations() {
     millis(b"1,073,741 s, ms", Duration::from_secs(1073741));
     millis(b"1,073,742 s, ms", Duration::from_secs(1073742));
     millis(b"4,294,967,295 s, ms", Duration::from_secs(4294967295));
+}
+
+// A duration above the longest can be made by hand only; its operations take the number as it is.
+fn beyond_longest() {
+    let most = Duration { millis: 4294967295 };
+    checked(b"4,294,967,295 ms twice, checked", most.checked_add(most));
+    millis(
+        b"4,294,967,295 ms twice, at most",
+        most.saturating_add(most),
+    );
+    checked(b"4,294,967,295 ms times 2, checked", most.checked_mul(2));
+    millis(
+        b"4,294,967,295 ms times 4,294,967,295, at most",
+        most.saturating_mul(4294967295),
+    );
+    parts_of(most);
+}
+
+fn parts_of(most: Duration) {
+    checked(
+        b"4,294,967,295 ms less 1,073,741,824 ms, checked",
+        most.checked_sub(Duration::MAX),
+    );
+    checked(b"half of 4,294,967,295 ms", most.checked_div(2));
+    checked(b"4,294,967,295 ms by 0", most.checked_div(0));
+    millis(
+        b"0 ms less 4,294,967,295 ms, at least",
+        Duration::ZERO.saturating_sub(most),
+    );
+    millis(
+        b"from 0 ms to 4,294,967,295 ms",
+        Duration::ZERO.abs_diff(most),
+    );
 }
 
 // Each of two moments 2^31 ms apart is before the other, so a deadline there is due.
@@ -41,4 +77,14 @@ fn waits() {
 
 fn millis(asked: &[u8], duration: Duration) {
     line(asked, duration.as_millis() as u64);
+}
+
+fn checked(asked: &[u8], duration: MaybeDuration) {
+    match duration {
+        MaybeDuration::None => {
+            io::write_all(STDOUT_FILENO, asked);
+            io::write_all(STDOUT_FILENO, b": none\n");
+        }
+        MaybeDuration::Some(duration) => millis(asked, duration),
+    }
 }
