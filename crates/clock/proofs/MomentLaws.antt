@@ -71,3 +71,8 @@ later-near a b p q = sym (by-test (leb b a) refl)
     by-test : (e : Bool) → leb b a ≡ e → wrap (max a b) ≡ if due (wrap b) (wrap a) then wrap a else wrap b
     by-test true e = if-true _ (due-near b a q p ∙ e) (ap wrap (omega (arith, leb-true b a e)))
     by-test false e = if-false _ (due-near b a q p ∙ e) (ap wrap (omega (arith, leb-false b a e)))
+
+-- 0, 1,500,000,000 and 3,000,000,000: each is before the next, and the last before the first.
+pub earlier-not-associative : (earlier (earlier 0 1500000000) 3000000000 ≡ 3000000000) × (earlier 0 (earlier 1500000000 3000000000) ≡ 0)
+unfolding earlier before if_then_else_
+earlier-not-associative = (refl, refl)

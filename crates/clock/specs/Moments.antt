@@ -35,7 +35,8 @@ due deadline now = if eqb deadline now then true else before deadline now
 unfoldable pub rest : ℕ → ℕ → ℕ
 rest m now = if before m now then 0 else clamp (gap m now)
 
--- The earlier of two moments: the second where it is before the first. Wrapped as moments are, this is not associative.
+-- The earlier of two moments: the second where it is before the first. This is not associative: of three moments that
+-- lie all round the clock, each is before the next.
 unfoldable pub earlier : ℕ → ℕ → ℕ
 earlier a b = if before b a then b else a
 

@@ -1,4 +1,5 @@
-// Document 01's worked examples that are not marked ★, run and printed; the file stdout has what the paper says.
+// Document 01's worked examples that are not marked ★, then what the Rust answered, run and printed. The figures in the
+// file stdout are the paper's, the Rust's (oracle/clock), or worked out in a comment here.
 use libc::STDOUT_FILENO;
 
 mod grid;

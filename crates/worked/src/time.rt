@@ -21,7 +21,8 @@ fn durations() {
     millis(b"4,294,967,295 s, ms", Duration::from_secs(4294967295));
 }
 
-// A duration above the longest can be made by hand only; its operations take the number as it is.
+// A duration above the longest can be made by hand only; its operations take the number as it is. Twice it, and its
+// product with 2, are above 1,073,741,824.
 fn beyond_longest() {
     let most = Duration { millis: 4294967295 };
     checked(b"4,294,967,295 ms twice, checked", most.checked_add(most));
@@ -37,6 +38,7 @@ fn beyond_longest() {
     parts_of(most);
 }
 
+// 4,294,967,295 - 1,073,741,824 = 3,221,225,471, which is not clamped; 4,294,967,295 = 2 * 2,147,483,647 + 1.
 fn parts_of(most: Duration) {
     checked(
         b"4,294,967,295 ms less 1,073,741,824 ms, checked",
