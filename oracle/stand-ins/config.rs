@@ -1,0 +1,35 @@
+// The counts that document 01 names: 4 addresses, 4 routes, 3 DNS servers, 256 option bytes; one interface. The rest is
+// not used here.
+pub type iface_index = u8;
+pub type dns_query_index = u8;
+pub type raw_index = u8;
+pub type tcp_index = u8;
+pub type tcp_listener_index = u8;
+pub type udp_index = u8;
+pub const IFACE_COUNT: usize = 1;
+pub const IFACE_ADDR_COUNT: usize = 4;
+pub const ROUTE_COUNT: usize = 4;
+pub const DHCP_MAX_DNS_SERVER_COUNT: usize = 3;
+pub const DHCP_OPTIONS_BUF_SIZE: usize = 256;
+pub const MULTICAST_GROUP_COUNT: usize = 1;
+pub const SLAAC_PREFIX_COUNT: usize = 1;
+pub const SLAAC_ROUTER_COUNT: usize = 1;
+pub const SIXLOWPAN_ADDRESS_CONTEXT_COUNT: usize = 1;
+pub const NEIGHBOR_CACHE_COUNT: usize = 1;
+pub const PENDING_QUEUE_COUNT: usize = 1;
+pub const TX_TIMESTAMP_QUEUE_COUNT: usize = 1;
+pub const UDP_SOCKET_COUNT: usize = 1;
+pub const RAW_SOCKET_COUNT: usize = 1;
+pub const TCP_SOCKET_COUNT: usize = 1;
+pub const TCP_LISTENER_COUNT: usize = 1;
+pub const UDP_RX_QUEUE_COUNT: usize = 1;
+pub const RAW_RX_QUEUE_COUNT: usize = 1;
+pub const TCP_LISTENER_BACKLOG: usize = 1;
+pub const ASSEMBLER_MAX_SEGMENT_COUNT: usize = 1;
+pub const REASSEMBLY_BUFFER_COUNT: usize = 1;
+pub const DNS_MAX_QUERY_COUNT: usize = 1;
+pub const DNS_MAX_RESULT_COUNT: usize = 1;
+pub const DNS_MAX_SERVER_COUNT: usize = 1;
+pub const DNS_MAX_NAME_SIZE: usize = 255;
+pub const DHCP_SERVER_LEASE_COUNT: usize = 1;
+pub const DHCP_SERVER_CLIENT_ID_SIZE: usize = 24;

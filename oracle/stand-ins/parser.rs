@@ -1,0 +1,1 @@
+//! Stand-in for reading addresses from text, which nothing here does.
