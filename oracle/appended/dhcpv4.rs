@@ -94,10 +94,9 @@ impl DhcpLease {
     }
 }
 
-impl DhcpLeaseOptions {
-    /// Where in the store the data of the first such option lies, and its length.
-    pub(crate) fn place(&self, kind: u8) -> Option<(usize, usize)> {
-        let data = self.get(kind)?;
-        Some((data.as_ptr() as usize - self.buf.as_ptr() as usize, data.len()))
-    }
+/// Where in a store the data of the first such option lies, and its length.
+pub(crate) fn place(used: u16, options: &[u8; DHCP_OPTIONS_BUF_SIZE], kind: u8) -> Option<(usize, usize)> {
+    let store = DhcpLeaseOptions { buf: *options, len: used };
+    let data = store.get(kind)?;
+    Some((data.as_ptr() as usize - store.buf.as_ptr() as usize, data.len()))
 }

@@ -40,13 +40,14 @@ impl Random {
     }
 }
 
-/// Which lists: runs of a fresh client under the premises of demand 3, single calls on whole states of any kind, or calls
-/// on states that are not whole.
+/// Which lists: runs of a fresh client under the premises of demand 3, calls on whole states of any kind, calls on states
+/// that are not whole, or manual calls alone.
 #[derive(Clone, Copy, PartialEq, Eq, Debug)]
 pub enum Kind {
     Runs,
     States,
     Broken,
+    Tables,
 }
 
 /// The most that lies between two polls that are not refused.
@@ -60,9 +61,13 @@ pub struct Generator {
     left: u64,
     /// How likely a server answers, in percent, in this run.
     talkative: u64,
+    /// Whether its replies are mostly good ones, and polls mostly in time.
+    sober: bool,
     /// What has passed since the last poll that was not refused, if there was one.
     since: Option<u64>,
     wake: Option<u32>,
+    /// Whether the last call was a poll that built a message, to which a server may answer at once.
+    asked: bool,
     /// The options of the ACK that was last taken.
     taken: Option<Vec<u8>>,
     /// The options of the ACK that was last sent.
@@ -104,8 +109,10 @@ impl Generator {
             queue: Default::default(),
             left: 0,
             talkative: 50,
+            sober: false,
             since: None,
             wake: None,
+            asked: false,
             taken: None,
             sent: vec![],
         }
@@ -121,12 +128,16 @@ impl Generator {
             return self.queue.pop_front().unwrap();
         }
         self.left -= 1;
+        if std::mem::take(&mut self.asked) && self.random.percent(self.talkative) {
+            return self.process(post);
+        }
         match self.random.below(100) {
+            _ if self.kind == Kind::Tables => self.manual(),
             _ if self.left == 0 && self.kind == Kind::Runs && self.random.percent(10) => self.tail(post),
             0..=2 => Call::Reset { step: self.short_step() },
             3..=12 => self.manual(),
             13..=14 => Call::Get { step: self.short_step(), kind: self.random.pick(&[1, 3, 6, 51, 53, 54, 58, 100, 0, 255]) },
-            15..=59 if self.random.percent(self.talkative) => self.process(post),
+            15..=44 if self.random.percent(self.talkative) => self.process(post),
             _ => self.poll(post),
         }
     }
@@ -152,6 +163,7 @@ impl Generator {
             Answer::Polled(polled) if polled.number == 0 => {
                 self.since = Some(0);
                 self.wake = Some(polled.wake);
+                self.asked = polled.length > 0;
             }
             Answer::Processed(taken) if taken.number == 0 => {
                 if let Call::Process { reply, .. } = call
@@ -171,6 +183,7 @@ impl Generator {
         self.wake = None;
         self.taken = None;
         self.talkative = self.random.pick(&[10, 40, 60, 80]);
+        self.sober = self.random.percent(50);
         let r = &mut self.random;
         let moment = match r.below(6) {
             0 => r.pick(&[0, 1, 1 << 31, (1 << 31) - 1, u32::MAX]),
@@ -197,6 +210,10 @@ impl Generator {
             Kind::Broken => {
                 self.broken(moment);
                 self.left = 1 + self.random.below(3);
+            }
+            Kind::Tables => {
+                self.any_tables();
+                self.left = 2 + self.random.below(8);
             }
         }
     }
@@ -473,7 +490,8 @@ impl Generator {
         let to = target.wrapping_sub(now);
         let to = if to > 1 << 31 { 0 } else { to };
         let r = &mut self.random;
-        let step = match r.below(20) {
+        let in_time = self.sober && r.percent(80);
+        let step = match r.below(if in_time { 16 } else { 20 }) {
             0..=9 => to,
             10..=11 => to.saturating_sub(1),
             12..=13 => to + 1,
@@ -538,6 +556,7 @@ impl Generator {
             0..=3 => 0,
             4..=5 => r.below(5000) as u32,
             6 => self.wake.map_or(0, |wake| wake.wrapping_sub(post.moment)).min(DAY),
+            _ if self.sober => 1,
             _ => r.any_size(),
         };
         let step = self.within(step);
@@ -563,7 +582,9 @@ impl Generator {
         };
         let options = self.options(kind);
         let mut reply = message::reply(id, &hardware, your, &options);
-        self.damage(&mut reply);
+        if !self.sober || self.random.percent(10) {
+            self.damage(&mut reply);
+        }
         Call::Process { step, source, reply }
     }
 
@@ -584,7 +605,7 @@ impl Generator {
             bytes.extend_from_slice(data);
             bytes
         };
-        let plain = self.random.percent(40);
+        let plain = self.random.percent(if self.sober { 80 } else { 40 });
         let r = &mut self.random;
         let kinds = if plain || r.percent(95) { vec![kind] } else { r.pick(&[&[][..], &[5, 5], &[2, 0]]).to_vec() };
         items.push(item(53, &kinds));

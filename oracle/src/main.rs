@@ -16,6 +16,7 @@ mod storage;
 mod time;
 mod wire;
 
+mod boundaries;
 mod demand;
 mod generate;
 mod message;
@@ -23,6 +24,7 @@ mod plain;
 mod post;
 mod record;
 mod run;
+mod show;
 
 use std::collections::BTreeMap;
 use std::io::{self, BufRead, Write};
@@ -35,9 +37,16 @@ use record::{Answer, Call, Fields, LONGEST_LINE, Writer};
 use run::Run;
 
 const USAGE: &str = "usage: oracle answer                     answers the calls on standard input
-       oracle generate KIND SEED COUNT   writes that many calls: KIND is runs, states or broken
+       oracle expand                     turns calls written by hand, `reply` among them, into a list of calls
+       oracle expect                     runs a list of calls, and holds the answers to its `#=` and `#!` lines
+       oracle show                       prints calls or answers, with the messages in them in words
+       oracle generate KIND SEED COUNT   writes that many calls: KIND is runs, states,
+                                         broken, tables, replies, polls or wire
+       oracle boundaries KIND            writes calls round the limits: KIND is creations, replies, polls or wire
        oracle check SEED COUNT [FAULT]   asks demand 3 of that many calls of fresh clients; FAULT, a wrong expectation
-                                         that must be found, is late-expiry, lost-returns or early-waking";
+                                         that must be found, is late-expiry, lost-returns or early-waking
+A list of calls comes on standard input, and docs/TRACE.md says how it is written. Exit status: 0, or 1 where a record is
+malformed, an expectation or the demand does not hold, or 2 where the command is wrong.";
 
 fn main() -> ExitCode {
     post::quiet_panics();
@@ -45,7 +54,11 @@ fn main() -> ExitCode {
     let words: Vec<&str> = words.iter().map(String::as_str).collect();
     let done = match words[..] {
         ["answer"] => answer(),
+        ["expand"] => expand(),
+        ["expect"] => expect(),
+        ["show"] => show(),
         ["generate", kind, seed, count] => generate(kind, seed, count),
+        ["boundaries", kind] => boundaries(kind),
         ["check", seed, count] => check(seed, count, "none"),
         ["check", seed, count, fault] => check(seed, count, fault),
         _ => {
@@ -110,25 +123,181 @@ fn answer() -> Result<(), String> {
     result
 }
 
+fn show() -> Result<(), String> {
+    let mut out = io::BufWriter::new(io::stdout().lock());
+    lines(|_, line| {
+        let mut print = || -> io::Result<()> {
+            out.write_all(line)?;
+            out.write_all(b"\n")?;
+            for words in show::words(line) {
+                writeln!(out, "    {words}")?;
+            }
+            Ok(())
+        };
+        print().map_err(|e| e.to_string())
+    })
+}
+
+/// Writes a list of calls. `runs`, `states`, `broken` and `tables` are lists as they come; `replies` and `polls` are single
+/// calls picked from such lists, each with the post that it is made on, and no outcome of one state taking more than its
+/// share.
 fn generate(kind: &str, seed: &str, count: &str) -> Result<(), String> {
-    let kind = match kind {
-        "runs" => Kind::Runs,
-        "states" => Kind::States,
-        "broken" => Kind::Broken,
-        _ => return Err(format!("`{kind}` is not runs, states or broken")),
+    let (seed, mut calls) = (number(seed)?, number(count)?);
+    let mut writer = Writer { out: vec![] };
+    let mut list = |kind: Kind, seed: u64, each: &mut dyn FnMut(&mut Writer, &Call, &Answer, &Run, Vec<Call>) -> bool| {
+        let mut run = Run::new();
+        let mut generator = Generator::new(seed, kind);
+        loop {
+            let call = generator.next(&run.post);
+            let before = run.snapshot();
+            let answer = run.call(&call)?;
+            generator.note(&call, &answer);
+            let done = each(&mut writer, &call, &answer, &run, before);
+            flush(&mut writer, done)?;
+            if done {
+                return Ok(());
+            }
+        }
     };
-    let (mut run, mut writer) = (Run::new(), Writer { out: vec![] });
-    let mut generator = Generator::new(number(seed)?, kind);
-    let mut calls = number(count)?;
-    while calls > 0 {
-        let call = generator.next(&run.post);
-        let answer = run.call(&call)?;
-        generator.note(&call, &answer);
-        writer.call(&call);
-        calls -= (answer != Answer::Nothing) as u64;
-        flush(&mut writer, false)?;
+    let all = |kind| match kind {
+        "runs" => Some(Kind::Runs),
+        "states" => Some(Kind::States),
+        "broken" => Some(Kind::Broken),
+        "tables" => Some(Kind::Tables),
+        _ => None,
+    };
+    match kind {
+        "replies" | "polls" => {
+            for (half, from) in [(calls / 2, Kind::Runs), (calls - calls / 2, Kind::States)] {
+                let mut wanted = half;
+                let mut seen: BTreeMap<(u8, u8, bool), u64> = BTreeMap::new();
+                if wanted > 0 {
+                    list(from, seed, &mut |writer, call, answer, run, before| {
+                        let fits = match call {
+                            Call::Process { .. } | Call::Reset { .. } | Call::Get { .. } => kind == "replies",
+                            Call::Poll { .. } => kind == "polls",
+                            _ => false,
+                        };
+                        let state = before.iter().find_map(|call| match call {
+                            Call::State { state, .. } => Some(state.place()),
+                            _ => None,
+                        });
+                        let built = matches!(answer, Answer::Polled(polled) if polled.length > 0);
+                        let share = seen.entry((state.unwrap(), answer.number(), built)).or_default();
+                        if fits && *share <= half / 8 {
+                            *share += 1;
+                            before.iter().for_each(|call| writer.call(call));
+                            writer.call(call);
+                            wanted -= 1;
+                        }
+                        wanted == 0
+                    })?;
+                }
+            }
+            Ok(())
+        }
+        "wire" => {
+            let mut wanted = calls;
+            if wanted == 0 {
+                return Ok(());
+            }
+            list(Kind::Runs, seed, &mut |writer, call, _, _, _| {
+                if let Call::Process { reply, .. } = call {
+                    let kinds = [53, 54, 1, 3, 6, 51, 58, 59, 100, 101, 0, 255];
+                    let kind = kinds[wanted as usize % kinds.len()];
+                    writer.call(&Call::Option { kind, reply: reply.clone() });
+                    wanted -= 1;
+                }
+                wanted == 0
+            })
+        }
+        _ => {
+            let from = all(kind).ok_or_else(|| format!("`{kind}` is no kind of list"))?;
+            if calls == 0 {
+                return Ok(());
+            }
+            list(from, seed, &mut |writer, call, answer, _, _| {
+                writer.call(call);
+                calls -= (*answer != Answer::Nothing) as u64;
+                calls == 0
+            })
+        }
     }
+}
+
+fn boundaries(kind: &str) -> Result<(), String> {
+    let calls = match kind {
+        "creations" => boundaries::creations(),
+        "replies" => boundaries::replies(),
+        "polls" => boundaries::polls(),
+        "wire" => boundaries::wire(),
+        _ => return Err(format!("`{kind}` is not creations, replies, polls or wire")),
+    };
+    let mut writer = Writer { out: vec![] };
+    calls.iter().for_each(|call| writer.call(call));
     flush(&mut writer, true)
+}
+
+/// Turns what is written by hand into a list of calls: comments stay, a `reply` becomes the `process` that it stands for.
+fn expand() -> Result<(), String> {
+    let (mut run, mut fields, mut writer) = (Run::new(), Fields::default(), Writer { out: vec![] });
+    let result = lines(|_, line| {
+        if line.is_empty() || line[0] == b'#' {
+            writer.out.extend_from_slice(line);
+            writer.out.push(b'\n');
+            return Ok(());
+        }
+        let call = run.expand(fields.call(line)?);
+        run.call(&call)?;
+        writer.call(&call);
+        flush(&mut writer, false)
+    });
+    flush(&mut writer, true)?;
+    result
+}
+
+/// Runs a list of calls and holds the answers to what a paper says: after a call, a comment `#=` has words that stand in
+/// its answer, `#!` words that don't, `#:` a whole line, several of them in the order in which they stand there.
+fn expect() -> Result<(), String> {
+    let (mut run, mut fields, mut writer) = (Run::new(), Fields::default(), Writer { out: vec![] });
+    let (mut held, mut failed, mut from) = (0u64, 0u64, 0);
+    lines(|number, line| {
+        if line.is_empty() || line[0] == b'#' && !line.get(1).is_some_and(|c| b"=!:".contains(c)) {
+            return Ok(());
+        }
+        if line[0] != b'#' {
+            let call = run.expand(fields.call(line)?);
+            let answer = run.call(&call)?;
+            if answer != Answer::Nothing {
+                writer.out.clear();
+                writer.answer(&call, &answer, &run.post);
+                from = 0;
+            }
+            return Ok(());
+        }
+        let mut judge = |holds: bool, what: &[u8]| {
+            held += holds as u64;
+            failed += !holds as u64;
+            if !holds {
+                println!("line {number}: not so: {}{}, in the answer", line[1] as char, String::from_utf8_lossy(what));
+                print!("{}", String::from_utf8_lossy(&writer.out));
+            }
+        };
+        let text = line[2..].trim_ascii_start();
+        if line[1] == b':' {
+            let place = writer.out.split(|c| *c == b'\n').skip(from).position(|there| there == text);
+            from += place.map_or(0, |place| place + 1);
+            judge(place.is_some(), text);
+            return Ok(());
+        }
+        for word in text.split(|c| *c == b' ') {
+            let stands = writer.out.split(|c| *c == b' ' || *c == b'\n').any(|there| there == word);
+            judge(stands == (line[1] == b'='), word);
+        }
+        Ok(())
+    })?;
+    println!("{held} expectations hold, {failed} do not");
+    if failed == 0 { Ok(()) } else { Err("the Rust answers otherwise than the paper says".into()) }
 }
 
 /// The kind of a call and its outcome, for the totals.
@@ -156,7 +325,8 @@ fn check(seed: &str, count: &str, fault: &str) -> Result<(), String> {
         _ => return Err(format!("`{fault}` is not late-expiry, lost-returns or early-waking")),
     };
     let count = number(count)?;
-    let mut run = Run::new();
+    // Each call is made twice: by a post that goes on, and by one that is set to the state before the call.
+    let (mut run, mut twin) = (Run::new(), Run::new());
     let mut generator = Generator::new(number(seed)?, Kind::Runs);
     let mut demand = Demand::new(fault);
     let mut totals: BTreeMap<(&str, u8), u64> = BTreeMap::new();
@@ -172,6 +342,7 @@ fn check(seed: &str, count: &str, fault: &str) -> Result<(), String> {
         }
         record.call(&call);
         let before = run.post.tables;
+        let sets = run.snapshot();
         let answer = run.call(&call)?;
         generator.note(&call, &answer);
         if answer == Answer::Nothing {
@@ -179,9 +350,17 @@ fn check(seed: &str, count: &str, fault: &str) -> Result<(), String> {
         }
         calls += 1;
         *totals.entry((sort(&call), answer.number())).or_default() += 1;
-        if let Err(why) = demand.check(&call, &answer, &before, &mut run.post) {
+        for set in &sets {
+            twin.call(set)?;
+        }
+        let failed = if twin.call(&call)? != answer || twin.post.shown() != run.post.shown() {
+            Err("a post set to the state before the call answers otherwise".into())
+        } else {
+            demand.check(&call, &answer, &before, &mut run.post).map_err(|why| format!("demand 3 does not hold: {why}"))
+        };
+        if let Err(why) = failed {
             io::stdout().write_all(&record.out).map_err(|e| e.to_string())?;
-            return Err(format!("demand 3 does not hold after call {calls}, the last of the run above: {why}"));
+            return Err(format!("after call {calls}, the last of the run above: {why}"));
         }
         if begun.elapsed().as_secs() / 10 > shown {
             shown = begun.elapsed().as_secs() / 10;
@@ -191,7 +370,7 @@ fn check(seed: &str, count: &str, fault: &str) -> Result<(), String> {
     let seconds = begun.elapsed().as_secs_f64();
     println!("{calls} calls in {runs} runs, and {} polls tried beside them: demand 3 holds", demand.probes);
     println!("polls with a lease in force: {}; entries lost: {}", demand.leases, demand.losses);
-    println!("calls a second, with all that was tried: {}", ((calls + demand.probes) as f64 / seconds) as u64);
+    println!("calls a second, with all that was tried: {}", ((2 * calls + demand.probes) as f64 / seconds) as u64);
     println!("outcomes:");
     for ((sort, number), count) in totals {
         println!("  {sort} {number}: {count}");

@@ -63,6 +63,16 @@ pub enum State {
 }
 
 impl State {
+    /// 0 to 3, in the order of the states.
+    pub fn place(&self) -> u8 {
+        match self {
+            State::Init => 0,
+            State::Discovering { .. } => 1,
+            State::Requesting { .. } => 2,
+            State::Renewing { .. } => 3,
+        }
+    }
+
     pub fn renewing(&self) -> bool {
         matches!(self, State::Renewing { .. })
     }
@@ -95,10 +105,11 @@ impl Lease {
     };
 
     fn whole(&self) -> bool {
-        self.prefix <= 32
-            && self.dns_count as usize <= MOST_DNS
-            && self.used as usize <= STORE
-            && whole_items(&self.options[..self.used as usize])
+        self.prefix <= 32 && self.dns_count as usize <= MOST_DNS && self.store_whole()
+    }
+
+    pub fn store_whole(&self) -> bool {
+        self.used as usize <= STORE && whole_items(&self.options[..self.used as usize])
     }
 }
 

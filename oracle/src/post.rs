@@ -4,7 +4,7 @@ use std::cell::RefCell;
 use std::panic::{self, AssertUnwindSafe};
 
 use crate::driver::{Capabilities, Checksum, ChecksumCapabilities, Device, LinkState};
-use crate::iface::dhcpv4::DhcpConfig;
+use crate::iface::dhcpv4::{self, DhcpConfig};
 use crate::iface::{AddrOrigin, Iface, IfaceAddr, IfaceHandle, IfaceState, Medium, Preferred};
 use crate::plain::*;
 use crate::pool::{PoolRef, StaticPool};
@@ -441,17 +441,22 @@ impl Post {
         })
     }
 
+    /// All that an answer shows of the post.
+    pub fn shown(&self) -> (&Client, &Tables, u64, u32, &[u8]) {
+        (&self.client, &self.tables, self.generator, self.moment, &self.buffer)
+    }
+
     // Look-ups.
 
-    /// The place and length of an option's data in the lease's store.
+    /// The place and length of an option's data in the lease's store, or 9 where that is not whole.
     pub fn get(&mut self, step: u32, kind: u8) -> Result<Option<(usize, usize)>, u8> {
         self.moment = self.moment.wrapping_add(step);
-        if !self.whole() {
-            return Err(9);
+        let lease = &self.client.lease;
+        match self.client.state.renewing() {
+            false => Ok(None),
+            true if !lease.store_whole() => Err(9),
+            true => Ok(dhcpv4::place(lease.used, &lease.options, kind)),
         }
-        self.load();
-        let lease = self.ifaces.0.dhcpv4.as_ref().unwrap().lease();
-        Ok(lease.and_then(|lease| lease.options.place(kind)))
     }
 
     fn begin(&mut self) {

@@ -30,8 +30,27 @@ impl Run {
         }
     }
 
+    /// The records that set a post as this one stands.
+    pub fn snapshot(&self) -> Vec<Call> {
+        let post = &self.post;
+        let mut calls = vec![
+            Call::Start { moment: post.moment, generator: post.generator },
+            Call::Settings(post.client.settings.clone()),
+            Call::State { id: post.client.id, state: post.client.state },
+        ];
+        if post.client.state.renewing() {
+            calls.push(Call::Lease(Box::new(post.client.lease)));
+        }
+        let Tables { generation, addresses, routes, .. } = post.tables;
+        calls.push(Call::Tables { generation, addresses, routes });
+        calls.extend(post.tables.address_entries().iter().map(|entry| Call::Address(*entry)));
+        calls.extend(post.tables.route_entries().iter().map(|entry| Call::Route(*entry)));
+        calls
+    }
+
     pub fn call(&mut self, call: &Call) -> Result<Answer, String> {
         let post = &mut self.post;
+        post.buffer.clear();
         Ok(match call {
             Call::Start { moment, generator } => {
                 post.start(*moment, *generator);

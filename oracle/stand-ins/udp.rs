@@ -1,6 +1,6 @@
 //! Stand-in for UDP, from RFC 768: the header's four fields, and the checksum over the pseudo header, the header and the
 //! data. A computed 0 is sent as 65,535, since a 0 says that there is no checksum.
-use crate::wire::IpAddr;
+use crate::wire::{IpAddr, IpProtocol, Ipv4Addr, checksum};
 
 /// Source port, destination port, length, checksum: two bytes each.
 pub const HEADER_LEN: usize = 8;
@@ -36,10 +36,22 @@ impl<'a> Packet<'a> {
 
     pub fn fill_checksum(&mut self, source: &IpAddr, destination: &IpAddr) {
         self.set_checksum(0);
-        let (IpAddr::V4(source), IpAddr::V4(destination)) = (source, destination);
+        let (IpAddr::V4(source), IpAddr::V4(destination)) = (*source, *destination);
         let sum = words(&source.octets()) + words(&destination.octets()) + PROTOCOL + self.buffer.len() as u32 + words(self.buffer);
         let sum = ones_complement(sum);
-        self.set_checksum(if sum == 0xffff { 0xffff } else { !sum });
+        let checksum = if sum == 0xffff { 0xffff } else { !sum };
+        assert_eq!(checksum, by_the_rust(source, destination, self.buffer), "the Rust's own sum differs");
+        self.set_checksum(checksum);
+    }
+}
+
+/// The same checksum, put together from the Rust's functions on sums in wire/ip.rs, so that the two check each other.
+fn by_the_rust(source: Ipv4Addr, destination: Ipv4Addr, datagram: &[u8]) -> u16 {
+    let (source, destination) = (IpAddr::V4(source), IpAddr::V4(destination));
+    let pseudo = checksum::pseudo_header(&source, &destination, IpProtocol::Udp, datagram.len() as u32);
+    match !checksum::combine(&[pseudo, checksum::data(datagram)]) {
+        0 => 0xffff,
+        sum => sum,
     }
 }
 
