@@ -1,4 +1,3 @@
-
 // Appended to the copy of src/iface/dhcpv4.rs: the client's private state, in and out.
 
 use crate::plain;
@@ -8,10 +7,7 @@ fn moment(at: u32) -> Instant {
 }
 
 fn server(address: plain::Address, identifier: plain::Address) -> DhcpServerInfo {
-    DhcpServerInfo {
-        address: address.into(),
-        identifier: identifier.into(),
-    }
+    DhcpServerInfo { address: address.into(), identifier: identifier.into() }
 }
 
 impl Client {

@@ -1,4 +1,3 @@
-
 // Appended to the copy of src/rand.rs: the generator's state, out.
 
 impl Rand {

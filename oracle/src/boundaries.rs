@@ -255,7 +255,11 @@ pub fn replies() -> Vec<Call> {
     // Masks.
     for ones in 0..=32u32 {
         let mask = u32::MAX.checked_shl(32 - ones).unwrap_or(0);
-        list.on(standard(), requesting(), &[item(53, &[ACK]), item(54, &IDENTIFIER), item(1, &mask.to_be_bytes()), end.clone()].concat());
+        list.on(
+            standard(),
+            requesting(),
+            &[item(53, &[ACK]), item(54, &IDENTIFIER), item(1, &mask.to_be_bytes()), end.clone()].concat(),
+        );
     }
     for mask in [[255, 0, 255, 0], [127, 255, 255, 255], [255, 255, 255, 253], [0, 0, 0, 1], [255, 255, 254, 255]] {
         list.on(standard(), requesting(), &[item(53, &[ACK]), item(54, &IDENTIFIER), item(1, &mask), end.clone()].concat());
@@ -273,7 +277,19 @@ pub fn replies() -> Vec<Call> {
         list.ack(&item(6, &[address, [1, 1, 1, 1], address, [2, 2, 2, 2], [3, 3, 3, 3], [4, 4, 4, 4]].concat()));
     }
     // L, with and without a maximum; then T1 and T2 round it and round each other.
-    for l in [None, Some(0), Some(1), Some(7), Some(8), Some(119), Some(1_073_741), Some(1_073_742), Some(4_294_967), Some(4_294_968), Some(u32::MAX)] {
+    for l in [
+        None,
+        Some(0),
+        Some(1),
+        Some(7),
+        Some(8),
+        Some(119),
+        Some(1_073_741),
+        Some(1_073_742),
+        Some(4_294_967),
+        Some(4_294_968),
+        Some(u32::MAX),
+    ] {
         for maximum in [None, Some(2), Some(8), Some(1003), Some(LONGEST)] {
             let more = l.map_or(vec![], |l| seconds(51, l));
             list.on(Settings { maximum, ..standard() }, requesting(), &[plain_ack(), more, end.clone()].concat());
@@ -330,7 +346,11 @@ pub fn replies() -> Vec<Call> {
                     let mut options = plain_ack();
                     options[14] = mask;
                     let options = [options, change.clone(), end.clone()].concat();
-                    list.calls.push(Call::Process { step: 7, source: SERVER, reply: message::reply(ID, &HARDWARE, yours, &options) });
+                    list.calls.push(Call::Process {
+                        step: 7,
+                        source: SERVER,
+                        reply: message::reply(ID, &HARDWARE, yours, &options),
+                    });
                 }
             }
         }
@@ -339,7 +359,11 @@ pub fn replies() -> Vec<Call> {
     let mut options = plain_ack();
     options[8] ^= 1;
     list.on(standard(), renewing(), &[options, end.clone()].concat());
-    list.on(standard(), renewing(), &[item(53, &[ACK]), item(54, &[10, 0, 0, 1, 0]), plain_ack()[9..].to_vec(), end.clone()].concat());
+    list.on(
+        standard(),
+        renewing(),
+        &[item(53, &[ACK]), item(54, &[10, 0, 0, 1, 0]), plain_ack()[9..].to_vec(), end.clone()].concat(),
+    );
     // A reset in each state, and look-ups in the store.
     for state in [State::Init, discovering(), requesting(), renewing()] {
         list.at(standard(), state);
@@ -434,7 +458,12 @@ fn requesting_due(retry: u16) -> State {
 
 fn renewing_due(renew: bool, rebinding: bool) -> State {
     let at = |due: bool, later: u32| NOW.wrapping_add(if due { 0 } else { later });
-    State::Renewing { renew_at: at(renew, 60_000), rebind_at: at(rebinding, 105_000), expires_at: NOW.wrapping_add(120_000), rebinding }
+    State::Renewing {
+        renew_at: at(renew, 60_000),
+        rebind_at: at(rebinding, 105_000),
+        expires_at: NOW.wrapping_add(120_000),
+        rebinding,
+    }
 }
 
 /// Masks and addresses, and options of replies at every length.
@@ -451,7 +480,9 @@ pub fn wire() -> Vec<Call> {
         let reply = message::reply(ID, &HARDWARE, YOURS, options);
         calls.push(Call::Option { kind, reply });
     };
-    let items = [item(3, &[1, 2, 3, 4]), item(3, &[9]), item(6, &[]), vec![0, 0], item(200, &[5; 255]), vec![255], item(51, &[1])].concat();
+    let items =
+        [item(3, &[1, 2, 3, 4]), item(3, &[9]), item(6, &[]), vec![0, 0], item(200, &[5; 255]), vec![255], item(51, &[1])]
+            .concat();
     for kind in [0, 1, 3, 6, 51, 200, 254, 255] {
         option(kind, &items);
     }

@@ -64,21 +64,25 @@ impl Demand {
                 if self.held.is_some_and(|(ack, age)| age >= ack.l + late) {
                     self.held = None;
                 }
-                if post.client.state.renewing() != self.held.is_some() {
-                    return Err(format!("lease in force: {}, but the history holds {:?}", post.client.state.renewing(), self.held));
+                if post.plain.client.state.renewing() != self.held.is_some() {
+                    return Err(format!(
+                        "lease in force: {}, but the history holds {:?}",
+                        post.plain.client.state.renewing(),
+                        self.held
+                    ));
                 }
                 self.leases += self.held.is_some() as u64;
                 self.waking(polled, post)?;
             }
             _ => {}
         }
-        self.tables(&post.tables)
+        self.tables(&post.plain.tables)
     }
 
     fn accepted(&mut self, reply: &[u8], before: &Tables, post: &Post) {
         match message::message_type(reply) {
             Some(message::ACK) => {
-                let ack = message::ack(reply, post.client.settings.maximum);
+                let ack = message::ack(reply, post.plain.client.settings.maximum);
                 let held = self.held.map(|(ack, _)| ack);
                 if held.map(|h| (h.address, h.prefix)) != Some((ack.address, ack.prefix)) || self.fault == Fault::LostReturns {
                     self.lost_address = before.address_entries().iter().filter(|entry| !entry.dhcp).count() == MOST_ENTRIES;
@@ -113,7 +117,7 @@ impl Demand {
 
     /// Polls the post as it stands at later moments, and puts it back each time.
     fn waking(&mut self, polled: &Polled, post: &mut Post) -> Result<(), String> {
-        let d = polled.wake.wrapping_sub(post.moment);
+        let d = polled.wake.wrapping_sub(post.plain.moment);
         if d == 0 || d > DAY {
             return Err(format!("the waking moment {} lies {d} ms on", polled.wake));
         }
@@ -132,7 +136,7 @@ impl Demand {
         }
         let (answer, _) = self.probe(post, d, ROOM);
         let n = answer.length;
-        if answer.number != 0 || n == 0 || n > post.client.settings.mtu - 20 {
+        if answer.number != 0 || n == 0 || n > post.plain.client.settings.mtu - 20 {
             return Err(format!("the poll at the waking moment, {d} ms on, answers {answer:?}"));
         }
         for (length, expected) in [(n, (0, n)), (0, (0, 0)), (n - 1, (8, 0))] {
@@ -146,16 +150,16 @@ impl Demand {
 
     fn probe(&mut self, post: &mut Post, step: u32, length: u16) -> (Polled, bool) {
         self.probes += 1;
-        let (id, state, lease) = (post.client.id, post.client.state, post.client.lease);
-        let (tables, generator, moment) = (post.tables, post.generator, post.moment);
+        let (id, state, lease) = (post.plain.client.id, post.plain.client.state, post.plain.client.lease);
+        let (tables, generator, moment) = (post.plain.tables, post.plain.generator, post.plain.moment);
         let answer = post.poll(step, length, FILL);
-        let changed = post.client.id != id
-            || post.client.state != state
-            || post.client.lease != lease
-            || post.tables != tables
-            || post.generator != generator
-            || post.buffer.iter().enumerate().any(|(place, byte)| *byte != lent(FILL, place));
-        post.moment = moment;
+        let changed = post.plain.client.id != id
+            || post.plain.client.state != state
+            || post.plain.client.lease != lease
+            || post.plain.tables != tables
+            || post.plain.generator != generator
+            || post.plain.buffer.iter().enumerate().any(|(place, byte)| *byte != lent(FILL, place));
+        post.plain.moment = moment;
         if changed {
             post.set_state(id, state);
             post.set_lease(lease);

@@ -74,7 +74,8 @@ pub struct Generator {
     sent: Vec<u8>,
 }
 
-const ADDRESSES: [Address; 6] = [[10, 0, 0, 50], [10, 0, 0, 51], [192, 168, 1, 7], [172, 16, 0, 1], [1, 0, 0, 0], [223, 255, 255, 255]];
+const ADDRESSES: [Address; 6] =
+    [[10, 0, 0, 50], [10, 0, 0, 51], [192, 168, 1, 7], [172, 16, 0, 1], [1, 0, 0, 0], [223, 255, 255, 255]];
 const ODD: [Address; 8] = [
     [0, 0, 0, 0],
     [255, 255, 255, 255],
@@ -99,7 +100,8 @@ const MASKS: [Address; 12] = [
     [127, 255, 255, 255],
     [0, 0, 0, 1],
 ];
-const MANUAL: [(Address, u8); 5] = [([10, 1, 2, 3], 8), ([10, 0, 0, 0], 8), ([192, 168, 7, 1], 24), ([0, 0, 0, 0], 0), ([10, 0, 0, 50], 24)];
+const MANUAL: [(Address, u8); 5] =
+    [([10, 1, 2, 3], 8), ([10, 0, 0, 0], 8), ([192, 168, 7, 1], 24), ([0, 0, 0, 0], 0), ([10, 0, 0, 50], 24)];
 
 impl Generator {
     pub fn new(seed: u64, kind: Kind) -> Self {
@@ -228,7 +230,8 @@ impl Generator {
             1 => 576 + r.below(925) as u16,
             _ => 1500,
         };
-        s.hardware = r.pick(&[[2, 0, 0, 0, 0, 1], [2, 0, 0, 0, 0, 1], [0, 0, 0, 0, 0, 0], [255; 6], [0x52, 0x54, 0, 0x12, 0x34, 0x56]]);
+        s.hardware =
+            r.pick(&[[2, 0, 0, 0, 0, 1], [2, 0, 0, 0, 0, 1], [0, 0, 0, 0, 0, 0], [255; 6], [0x52, 0x54, 0, 0x12, 0x34, 0x56]]);
         s.offload = r.percent(20);
         if r.percent(40) {
             let length = r.pick(&[0, 1, 4, 9, 62, 63]);
@@ -477,11 +480,11 @@ impl Generator {
     }
 
     fn poll(&mut self, post: &Post) -> Call {
-        let now = post.moment;
+        let now = post.plain.moment;
         let mut target = self.wake.unwrap_or(now);
         if self.random.percent(25) {
             let r = &mut self.random;
-            target = match post.client.state {
+            target = match post.plain.client.state {
                 State::Init => now,
                 State::Discovering { retry_at } | State::Requesting { retry_at, .. } => retry_at,
                 State::Renewing { renew_at, rebind_at, expires_at, .. } => r.pick(&[renew_at, rebind_at, expires_at]),
@@ -509,8 +512,8 @@ impl Generator {
 
     /// The lent buffer: mostly long enough, and round the lengths that count.
     fn length(&mut self, post: &Post) -> u16 {
-        let requesting = matches!(post.client.state, State::Requesting { .. }) != self.random.percent(10);
-        let need = post.client.settings.datagram(requesting) as u64;
+        let requesting = matches!(post.plain.client.state, State::Requesting { .. }) != self.random.percent(10);
+        let need = post.plain.client.settings.datagram(requesting) as u64;
         let r = &mut self.random;
         let length = match r.below(25) {
             0..=13 => need + r.below(9),
@@ -541,7 +544,7 @@ impl Generator {
     // Replies.
 
     fn process(&mut self, post: &Post) -> Call {
-        let state = post.client.state;
+        let state = post.plain.client.state;
         let r = &mut self.random;
         let roll = r.below(100);
         let kind = match state {
@@ -555,7 +558,7 @@ impl Generator {
         let step = match r.below(8) {
             0..=3 => 0,
             4..=5 => r.below(5000) as u32,
-            6 => self.wake.map_or(0, |wake| wake.wrapping_sub(post.moment)).min(DAY),
+            6 => self.wake.map_or(0, |wake| wake.wrapping_sub(post.plain.moment)).min(DAY),
             _ if self.sober => 1,
             _ => r.any_size(),
         };
@@ -567,11 +570,11 @@ impl Generator {
             _ => [10, 0, 0, 9],
         };
         let id = match r.below(25) {
-            0 => post.client.id.wrapping_add(1),
+            0 => post.plain.client.id.wrapping_add(1),
             1 => r.next() as u32,
-            _ => post.client.id,
+            _ => post.plain.client.id,
         };
-        let mut hardware = post.client.settings.hardware;
+        let mut hardware = post.plain.client.settings.hardware;
         if r.percent(3) {
             hardware[r.below(6) as usize] ^= 1 << r.below(8);
         }
@@ -652,13 +655,17 @@ impl Generator {
             let r = &mut self.random;
             if r.percent(60) {
                 let count = r.pick(&[1, 1, 1, 2]);
-                let mut data: Vec<u8> = (0..count).flat_map(|_| if r.percent(80) { r.pick(&[[10, 0, 0, 1], [10, 0, 0, 2]]) } else { r.pick(&ODD) }).collect();
+                let mut data: Vec<u8> = (0..count)
+                    .flat_map(|_| if r.percent(80) { r.pick(&[[10, 0, 0, 1], [10, 0, 0, 2]]) } else { r.pick(&ODD) })
+                    .collect();
                 data.truncate(r.pick(&[8, 8, 8, 8, 5, 4, 3, 0]));
                 items.push(item(3, &data));
             }
             if r.percent(50) {
                 let count = r.upto(5);
-                let mut data: Vec<u8> = (0..count).flat_map(|_| if r.percent(75) { r.pick(&[[1, 1, 1, 1], [2, 2, 2, 2], [8, 8, 8, 8]]) } else { r.pick(&ODD) }).collect();
+                let mut data: Vec<u8> = (0..count)
+                    .flat_map(|_| if r.percent(75) { r.pick(&[[1, 1, 1, 1], [2, 2, 2, 2], [8, 8, 8, 8]]) } else { r.pick(&ODD) })
+                    .collect();
                 let stray = r.pick(&[0, 0, 0, 1, 3]);
                 data.extend(r.bytes(stray));
                 items.push(item(6, &data));

@@ -1,4 +1,4 @@
-//! The Rust's client as the judge: it answers lists of calls, and demand 3 is asked of it. oracle/README.md has the
+//! The Rust's client as the judge: it answers lists of calls, and is compared with the papers. oracle/README.md has the
 //! commands.
 #[macro_use]
 mod macros;
@@ -20,6 +20,7 @@ mod boundaries;
 mod demand;
 mod generate;
 mod message;
+mod model;
 mod plain;
 mod post;
 mod record;
@@ -33,6 +34,7 @@ use std::time::Instant as Stopwatch;
 
 use demand::{Demand, Fault};
 use generate::{Generator, Kind};
+use plain::Plain;
 use record::{Answer, Call, Fields, LONGEST_LINE, Writer};
 use run::Run;
 
@@ -43,8 +45,8 @@ const USAGE: &str = "usage: oracle answer                     answers the calls 
        oracle generate KIND SEED COUNT   writes that many calls: KIND is runs, states,
                                          broken, tables, replies, polls or wire
        oracle boundaries KIND            writes calls round the limits: KIND is creations, replies, polls or wire
-       oracle check SEED COUNT [FAULT]   asks demand 3 of that many calls of fresh clients; FAULT, a wrong expectation
-                                         that must be found, is late-expiry, lost-returns or early-waking
+       oracle check SEED COUNT [FAULT]   compares that many calls with the papers, and asks demand 3 of the Rust; FAULT, a
+                                         wrong expectation that must be found, is late-expiry, lost-returns or early-waking
 A list of calls comes on standard input, and docs/TRACE.md says how it is written. Exit status: 0, or 1 where a record is
 malformed, an expectation or the demand does not hold, or 2 where the command is wrong.";
 
@@ -116,7 +118,7 @@ fn answer() -> Result<(), String> {
         }
         let call = fields.call(line)?;
         let answer = run.call(&call)?;
-        writer.answer(&call, &answer, &run.post);
+        writer.answer(&call, &answer, &run.post.plain);
         flush(&mut writer, false)
     });
     flush(&mut writer, true)?;
@@ -270,7 +272,7 @@ fn expect() -> Result<(), String> {
             let answer = run.call(&call)?;
             if answer != Answer::Nothing {
                 writer.out.clear();
-                writer.answer(&call, &answer, &run.post);
+                writer.answer(&call, &answer, &run.post.plain);
                 from = 0;
             }
             return Ok(());
@@ -316,6 +318,9 @@ fn sort(call: &Call) -> &'static str {
     }
 }
 
+/// Half of the calls are runs of fresh clients, of which demand 3 is asked; the other half are on states of any kind, whole
+/// and not. Each call is made three times: by a post that goes on, by one that is set to the state before the call, and by
+/// the model; the three have to agree on the answer and on all that it leaves.
 fn check(seed: &str, count: &str, fault: &str) -> Result<(), String> {
     let fault = match fault {
         "none" => Fault::None,
@@ -324,59 +329,83 @@ fn check(seed: &str, count: &str, fault: &str) -> Result<(), String> {
         "early-waking" => Fault::EarlyWaking,
         _ => return Err(format!("`{fault}` is not late-expiry, lost-returns or early-waking")),
     };
-    let count = number(count)?;
-    // Each call is made twice: by a post that goes on, and by one that is set to the state before the call.
-    let (mut run, mut twin) = (Run::new(), Run::new());
-    let mut generator = Generator::new(number(seed)?, Kind::Runs);
-    let mut demand = Demand::new(fault);
-    let mut totals: BTreeMap<(&str, u8), u64> = BTreeMap::new();
-    let mut record = Writer { out: vec![] };
-    let (mut calls, mut runs) = (0u64, 0u64);
+    let (seed, count) = (number(seed)?, number(count)?);
     let begun = Stopwatch::now();
-    let mut shown = 0;
-    while calls < count {
-        let call = generator.next(&run.post);
-        if let Call::Start { .. } = call {
-            record.out.clear();
-            runs += 1;
+    let mut totals: BTreeMap<(&str, u8), u64> = BTreeMap::new();
+    let mut lines: BTreeMap<&str, u64> = BTreeMap::new();
+    let mut demand = Demand::new(fault);
+    let (mut calls, mut runs, mut shown) = (0u64, 0u64, 0);
+    let half = count / 2;
+    for (kind, end) in
+        [(Kind::Runs, half), (Kind::States, half + half * 3 / 4), (Kind::Broken, half + half * 7 / 8), (Kind::Tables, count)]
+    {
+        let (mut run, mut twin) = (Run::new(), Run::new());
+        let mut generator = Generator::new(seed, kind);
+        let mut record = Writer { out: vec![] };
+        while calls < end {
+            let call = generator.next(&run.post);
+            if let Call::Start { .. } = call {
+                record.out.clear();
+                runs += (kind == Kind::Runs) as u64;
+            }
+            record.call(&call);
+            let before = run.snapshot();
+            let tables = run.post.plain.tables;
+            let mut model = run.post.plain.clone();
+            let answer = run.call(&call)?;
+            generator.note(&call, &answer);
+            if answer == Answer::Nothing {
+                continue;
+            }
+            calls += 1;
+            *totals.entry((sort(&call), answer.number())).or_default() += 1;
+            for set in &before {
+                twin.call(set)?;
+            }
+            let mut failed = None;
+            let mut beside = |what: &str, answer: &Answer, post: &Plain| {
+                record.out.extend_from_slice(format!("# {what}\n").as_bytes());
+                record.answer(&call, answer, post);
+            };
+            let again = twin.call(&call)?;
+            let by_the_papers = model.call_by_the_papers(&call);
+            if (&again, &twin.post.plain) != (&answer, &run.post.plain) {
+                beside("the Rust, having come to this call:", &answer, &run.post.plain);
+                beside("the Rust, set to the state before it:", &again, &twin.post.plain);
+                failed = Some("the two answers above differ".into());
+            } else if (&by_the_papers, &model) != (&answer, &run.post.plain) {
+                beside("the Rust:", &answer, &run.post.plain);
+                beside("by the papers:", &by_the_papers, &model);
+                failed = Some("the two answers above differ".into());
+            } else if kind == Kind::Runs
+                && let Err(why) = demand.check(&call, &answer, &tables, &mut run.post)
+            {
+                failed = Some(format!("demand 3 does not hold: {why}"));
+            }
+            if let Some(why) = failed {
+                io::stdout().write_all(&record.out).map_err(|e| e.to_string())?;
+                return Err(format!("after call {calls}, the last of the run above: {why}"));
+            }
+            if begun.elapsed().as_secs() / 10 > shown {
+                shown = begun.elapsed().as_secs() / 10;
+                eprintln!("{calls} of {count} calls");
+            }
         }
-        record.call(&call);
-        let before = run.post.tables;
-        let sets = run.snapshot();
-        let answer = run.call(&call)?;
-        generator.note(&call, &answer);
-        if answer == Answer::Nothing {
-            continue;
-        }
-        calls += 1;
-        *totals.entry((sort(&call), answer.number())).or_default() += 1;
-        for set in &sets {
-            twin.call(set)?;
-        }
-        let failed = if twin.call(&call)? != answer || twin.post.shown() != run.post.shown() {
-            Err("a post set to the state before the call answers otherwise".into())
-        } else {
-            demand.check(&call, &answer, &before, &mut run.post).map_err(|why| format!("demand 3 does not hold: {why}"))
-        };
-        if let Err(why) = failed {
-            io::stdout().write_all(&record.out).map_err(|e| e.to_string())?;
-            return Err(format!("after call {calls}, the last of the run above: {why}"));
-        }
-        if begun.elapsed().as_secs() / 10 > shown {
-            shown = begun.elapsed().as_secs() / 10;
-            eprintln!("{calls} of {count} calls");
+        for (line, count) in run.post.seen {
+            *lines.entry(line).or_default() += count;
         }
     }
-    let seconds = begun.elapsed().as_secs_f64();
-    println!("{calls} calls in {runs} runs, and {} polls tried beside them: demand 3 holds", demand.probes);
+    let rate = ((2 * calls + demand.probes) as f64 / begun.elapsed().as_secs_f64()) as u64;
+    println!("{calls} calls, each by the Rust twice and by the model: no difference");
+    println!("{half} of them in {runs} runs of fresh clients, and {} polls tried beside them: demand 3 holds", demand.probes);
     println!("polls with a lease in force: {}; entries lost: {}", demand.leases, demand.losses);
-    println!("calls a second, with all that was tried: {}", ((2 * calls + demand.probes) as f64 / seconds) as u64);
+    println!("calls of the Rust a second, with all that is compared: {rate}");
     println!("outcomes:");
     for ((sort, number), count) in totals {
         println!("  {sort} {number}: {count}");
     }
     println!("the Rust's log lines:");
-    for (line, count) in &run.post.seen.lines {
+    for (line, count) in lines {
         println!("  {count} {line}");
     }
     Ok(())

@@ -47,7 +47,7 @@ pub fn option(reply: &[u8], code: u8) -> Option<&[u8]> {
     options(reply).into_iter().find(|item| item.0 == code).map(|item| item.1)
 }
 
-fn address(data: &[u8]) -> Option<Address> {
+pub fn address(data: &[u8]) -> Option<Address> {
     data.get(..4)?.try_into().ok()
 }
 
@@ -89,5 +89,18 @@ pub fn ack(reply: &[u8], maximum: Option<u32>) -> Ack {
         address: address(&reply[16..20]).unwrap(),
         prefix: mask.count_ones() as u8,
         router: option(reply, 3).and_then(address).filter(|router| unicast(*router)),
+    }
+}
+
+/// How long after an ACK to renew, to rebind and to give the lease up: document 01's table, after the clamp.
+pub fn times(reply: &[u8], maximum: Option<u32>) -> (u64, u64, u64) {
+    let l = ack(reply, maximum).l;
+    let t1 = option(reply, 58).and_then(seconds).map(duration);
+    let t2 = option(reply, 59).and_then(seconds).map(duration);
+    match (t1, t2) {
+        (Some(t1), Some(t2)) if t1 < t2 && t2 < l => (t1, t2, l),
+        (Some(t1), None) if t1 < l => (t1, t1 + (l - t1) / 4 * 3, l),
+        (None, Some(t2)) if t2 < l => ((l / 2).min(t2), t2, l),
+        _ => (l / 2, l / 8 * 7, l),
     }
 }

@@ -171,6 +171,16 @@ impl Client {
     }
 }
 
+/// A post, and the buffer that the last call was lent, as the call left it.
+#[derive(Clone, Debug, PartialEq, Eq)]
+pub struct Plain {
+    pub client: Client,
+    pub tables: Tables,
+    pub generator: u64,
+    pub moment: u32,
+    pub buffer: Vec<u8>,
+}
+
 /// Items of kind, length and data, one after the other, up to the end.
 pub fn whole_items(mut bytes: &[u8]) -> bool {
     while let [_, length, rest @ ..] = bytes {

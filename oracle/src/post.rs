@@ -1,6 +1,7 @@
 //! A post: the Rust's client on its interface, with tables, generator and moment, called as document 01 has the calls.
 //! Its state is read out after each call, and put in before one where a record has set it.
 use std::cell::RefCell;
+use std::collections::BTreeMap;
 use std::panic::{self, AssertUnwindSafe};
 
 use crate::driver::{Capabilities, Checksum, ChecksumCapabilities, Device, LinkState};
@@ -35,20 +36,10 @@ pub struct Taken {
     pub purge: bool,
 }
 
-/// How often something happened that no answer shows by itself, by the Rust's own log lines.
-#[derive(Default)]
-pub struct Seen {
-    pub lines: std::collections::BTreeMap<&'static str, u64>,
-}
-
 pub struct Post {
-    pub client: Client,
-    pub tables: Tables,
-    pub generator: u64,
-    pub moment: u32,
-    /// The lent buffer, as the last poll left it.
-    pub buffer: Vec<u8>,
-    pub seen: Seen,
+    pub plain: Plain,
+    /// How often each of the Rust's log lines came.
+    pub seen: BTreeMap<&'static str, u64>,
 
     /// What creation says of the client's settings: 0, or 1 to 7.
     settings_number: u8,
@@ -115,12 +106,14 @@ impl Post {
             purged: false,
         };
         let mut post = Post {
-            client: Client { settings: Settings::zero(), id: 0, state: State::Init, lease: Lease::ZERO },
-            tables: Tables::default(),
-            generator: 0,
-            moment: 0,
-            buffer: vec![],
-            seen: Seen::default(),
+            plain: Plain {
+                client: Client { settings: Settings::zero(), id: 0, state: State::Init, lease: Lease::ZERO },
+                tables: Tables::default(),
+                generator: 0,
+                moment: 0,
+                buffer: vec![],
+            },
+            seen: BTreeMap::new(),
             settings_number: 2,
             stale: true,
             ifaces: Slab(iface),
@@ -138,38 +131,38 @@ impl Post {
     pub fn start(&mut self, moment: u32, generator: u64) {
         self.set_settings(Settings::zero());
         self.set_state(0, State::Init);
-        self.client.lease = Lease::ZERO;
-        self.tables = Tables::default();
-        self.moment = moment;
-        self.generator = generator;
+        self.plain.client.lease = Lease::ZERO;
+        self.plain.tables = Tables::default();
+        self.plain.moment = moment;
+        self.plain.generator = generator;
     }
 
     // Setting any state at all.
 
     pub fn set_settings(&mut self, settings: Settings) {
-        self.client.settings = settings;
+        self.plain.client.settings = settings;
         self.stale = true;
         self.settings_number = self.judge_settings();
     }
 
     pub fn set_state(&mut self, id: u32, state: State) {
-        self.client.id = id;
-        self.client.state = state;
+        self.plain.client.id = id;
+        self.plain.client.state = state;
         self.stale = true;
     }
 
     pub fn set_lease(&mut self, lease: Lease) {
-        self.client.lease = lease;
+        self.plain.client.lease = lease;
         self.stale = true;
     }
 
     pub fn set_tables(&mut self, tables: Tables) {
-        self.tables = tables;
+        self.plain.tables = tables;
         self.stale = true;
     }
 
     pub fn set_generator(&mut self, generator: u64) {
-        self.generator = generator;
+        self.plain.generator = generator;
         self.stale = true;
     }
 
@@ -179,7 +172,7 @@ impl Post {
         if !self.make() {
             return 1;
         }
-        let settings = &self.client.settings;
+        let settings = &self.plain.client.settings;
         match settings {
             s if s.mtu < LEAST_MTU || s.mtu > MOST_MTU => 2,
             s if s.name.len() > MOST_NAME => 3,
@@ -193,7 +186,7 @@ impl Post {
 
     /// Makes the Rust's client from the settings: whether it took them.
     fn make(&mut self) -> bool {
-        let settings = &self.client.settings;
+        let settings = &self.plain.client.settings;
         self.ifaces.0.dhcpv4 = None;
         self.list = settings.list.clone().unwrap_or_default();
         self.extra = settings.extra.clone();
@@ -250,22 +243,22 @@ impl Post {
         }
         self.stale = false;
         let iface = &mut self.ifaces.0;
-        iface.dhcpv4.as_mut().unwrap().set(self.client.id, &self.client.state, &self.client.lease);
+        iface.dhcpv4.as_mut().unwrap().set(self.plain.client.id, &self.plain.client.state, &self.plain.client.lease);
         self.load_tables();
-        self.inner.rand = Rand::new(self.generator);
+        self.inner.rand = Rand::new(self.plain.generator);
     }
 
     fn load_tables(&mut self) {
         let iface = &mut self.ifaces.0;
-        iface.config_generation = self.tables.generation;
+        iface.config_generation = self.plain.tables.generation;
         iface.ip_addrs.clear();
-        for entry in self.tables.address_entries() {
+        for entry in self.plain.tables.address_entries() {
             let origin = if entry.dhcp { AddrOrigin::Dhcpv4 } else { AddrOrigin::Manual };
             let address = IfaceAddr { cidr: cidr(entry.address, entry.prefix), origin, preferred: Preferred::Always };
             iface.ip_addrs.push(address).unwrap();
         }
         self.inner.routes.clear();
-        for entry in self.tables.route_entries() {
+        for entry in self.plain.tables.route_entries() {
             // The table takes no router that is not unicast, but one can be written into it.
             let mut route = Route::new_ipv4_gateway(Ipv4Addr::new(10, 0, 0, 1), iface.handle);
             route.cidr = cidr(entry.network, entry.prefix);
@@ -278,10 +271,10 @@ impl Post {
     /// Reads the state out of the Rust.
     fn unload(&mut self) {
         let (id, state, lease) = self.ifaces.0.dhcpv4.as_ref().unwrap().plain();
-        self.client.id = id;
-        self.client.state = state;
-        self.client.lease = lease.unwrap_or(Lease::ZERO);
-        self.generator = self.inner.rand.state();
+        self.plain.client.id = id;
+        self.plain.client.state = state;
+        self.plain.client.lease = lease.unwrap_or(Lease::ZERO);
+        self.plain.generator = self.inner.rand.state();
         self.unload_tables();
     }
 
@@ -299,12 +292,12 @@ impl Post {
             *place = RouteEntry { network, prefix, router: router.octets(), dhcp: route.origin == RouteOrigin::Dhcpv4 };
         }
         tables.routes = self.inner.routes.len() as u8;
-        self.tables = tables;
+        self.plain.tables = tables;
     }
 
     /// Number 9: the Rust cannot hold a state that is not whole, so this is judged by its definition.
     pub fn whole(&self) -> bool {
-        self.settings_number == 0 && self.client.whole() && self.tables.whole()
+        self.settings_number == 0 && self.plain.client.whole() && self.plain.tables.whole()
     }
 
     // The calls.
@@ -320,15 +313,15 @@ impl Post {
             let (id, state, _) = self.ifaces.0.dhcpv4.as_ref().unwrap().plain();
             self.set_state(id, state);
         }
-        self.client.lease = Lease::ZERO;
+        self.plain.client.lease = Lease::ZERO;
         number
     }
 
     pub fn poll(&mut self, step: u32, length: u16, fill: u8) -> Polled {
-        self.moment = self.moment.wrapping_add(step);
+        self.plain.moment = self.plain.moment.wrapping_add(step);
         let length = length as usize;
-        self.buffer.clear();
-        self.buffer.extend((0..length).map(|place| lent(fill, place)));
+        self.plain.buffer.clear();
+        self.plain.buffer.extend((0..length).map(|place| lent(fill, place)));
         if !self.whole() {
             return Polled { number: 9, ..Polled::default() };
         }
@@ -336,10 +329,10 @@ impl Post {
         self.begin();
         self.pool.put((length > 0).then(|| {
             let mut storage = vec![0; HEADROOM];
-            storage.extend_from_slice(&self.buffer);
+            storage.extend_from_slice(&self.plain.buffer);
             storage
         }));
-        let mut clock = Clock::new(Instant::from_millis(self.moment));
+        let mut clock = Clock::new(Instant::from_millis(self.plain.moment));
         let broke = panic::catch_unwind(AssertUnwindSafe(|| self.ifaces.0.dhcpv4_poll(&mut self.inner, &mut clock)));
         self.pool.put(None);
         self.count();
@@ -356,29 +349,29 @@ impl Post {
             answer.length = sent.packet.len() as u16;
             answer.source = sent.source.octets();
             answer.destination = sent.destination.octets();
-            self.buffer.copy_from_slice(&sent.packet.storage[HEADROOM..]);
+            self.plain.buffer.copy_from_slice(&sent.packet.storage[HEADROOM..]);
         }
         answer
     }
 
     pub fn process(&mut self, step: u32, source: Address, reply: &[u8]) -> Taken {
-        self.moment = self.moment.wrapping_add(step);
+        self.plain.moment = self.plain.moment.wrapping_add(step);
         if !self.whole() {
             return Taken { number: 9, purge: false };
         }
         self.load();
         self.begin();
         let mut payload = reply.to_vec();
-        let now = Instant::from_millis(self.moment);
+        let now = Instant::from_millis(self.plain.moment);
         self.ifaces.0.dhcpv4_process(&mut self.inner, source.into(), &mut payload, now);
         self.count();
-        let number = outcome(&self.client.settings.hardware, reply);
+        let number = outcome(&self.plain.client.settings.hardware, reply);
         self.unload();
         Taken { number, purge: self.inner.purged }
     }
 
     pub fn reset(&mut self, step: u32) -> Taken {
-        self.moment = self.moment.wrapping_add(step);
+        self.plain.moment = self.plain.moment.wrapping_add(step);
         if !self.whole() {
             return Taken { number: 9, purge: false };
         }
@@ -394,8 +387,8 @@ impl Post {
     // The manual calls: ours, on the Rust's tables.
 
     fn manual(&mut self, step: u32, prefix: u8, change: impl FnOnce(&mut IfaceState<'static>, &mut Routes) -> u8) -> u8 {
-        self.moment = self.moment.wrapping_add(step);
-        if !self.tables.whole() || prefix > 32 {
+        self.plain.moment = self.plain.moment.wrapping_add(step);
+        if !self.plain.tables.whole() || prefix > 32 {
             return 9;
         }
         // The client may not be whole; the tables are.
@@ -407,8 +400,7 @@ impl Post {
 
     pub fn add_address(&mut self, step: u32, address: Address, prefix: u8) -> u8 {
         self.manual(step, prefix, |iface, _| {
-            let address =
-                IfaceAddr { cidr: cidr(address, prefix), origin: AddrOrigin::Manual, preferred: Preferred::Always };
+            let address = IfaceAddr { cidr: cidr(address, prefix), origin: AddrOrigin::Manual, preferred: Preferred::Always };
             if iface.ip_addrs.push(address).is_err() { 11 } else { 0 }
         })
     }
@@ -441,18 +433,13 @@ impl Post {
         })
     }
 
-    /// All that an answer shows of the post.
-    pub fn shown(&self) -> (&Client, &Tables, u64, u32, &[u8]) {
-        (&self.client, &self.tables, self.generator, self.moment, &self.buffer)
-    }
-
     // Look-ups.
 
     /// The place and length of an option's data in the lease's store, or 9 where that is not whole.
     pub fn get(&mut self, step: u32, kind: u8) -> Result<Option<(usize, usize)>, u8> {
-        self.moment = self.moment.wrapping_add(step);
-        let lease = &self.client.lease;
-        match self.client.state.renewing() {
+        self.plain.moment = self.plain.moment.wrapping_add(step);
+        let lease = &self.plain.client.lease;
+        match self.plain.client.state.renewing() {
             false => Ok(None),
             true if !lease.store_whole() => Err(9),
             true => Ok(dhcpv4::place(lease.used, &lease.options, kind)),
@@ -468,7 +455,7 @@ impl Post {
     fn count(&mut self) {
         log::LINES.with_borrow(|lines| {
             for text in &lines.texts {
-                *self.seen.lines.entry(text).or_default() += 1;
+                *self.seen.entry(text).or_default() += 1;
             }
         });
     }

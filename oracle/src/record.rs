@@ -1,11 +1,12 @@
 //! Records, as docs/TRACE.md has them: a line is a form with its gaps filled.
 use crate::plain::*;
-use crate::post::{Polled, Post, Taken};
+use crate::post::{Polled, Taken};
 
 // The forms. A gap is %b (0 or 1), %c (8 bits), %h (16 bits), %w (32 bits), %q (64 bits), %a (an address), %x (bytes in hex).
 
 pub const START: &str = "start moment=%w generator=%q";
-pub const SETTINGS: &str = "settings medium=%c mtu=%h hardware=%x offload=%b name=%x listed=%b list=%x extra=%x capped=%b maximum=%w ignore_naks=%b";
+pub const SETTINGS: &str =
+    "settings medium=%c mtu=%h hardware=%x offload=%b name=%x listed=%b list=%x extra=%x capped=%b maximum=%w ignore_naks=%b";
 pub const INIT: &str = "init id=%w";
 pub const DISCOVERING: &str = "discovering id=%w retry_at=%w";
 pub const REQUESTING: &str = "requesting id=%w retry_at=%w retry=%h server=%a identifier=%a requested=%a";
@@ -74,13 +75,23 @@ pub enum Call {
 pub enum Answer {
     /// A record that sets something has none.
     Nothing,
-    Created { number: u8 },
+    Created {
+        number: u8,
+    },
     Polled(Polled),
     Processed(Taken),
     WasReset(Taken),
-    Changed { number: u8 },
-    Got { number: u8, found: Option<(usize, usize)> },
-    Masked { unicast: bool, prefix: Option<u8> },
+    Changed {
+        number: u8,
+    },
+    Got {
+        number: u8,
+        found: Option<(usize, usize)>,
+    },
+    Masked {
+        unicast: bool,
+        prefix: Option<u8>,
+    },
     Optioned(Option<Vec<u8>>),
 }
 
@@ -299,12 +310,7 @@ impl Fields {
             },
             RENEWING => Call::State {
                 id: self.w(),
-                state: State::Renewing {
-                    renew_at: self.w(),
-                    rebind_at: self.w(),
-                    expires_at: self.w(),
-                    rebinding: self.yes(),
-                },
+                state: State::Renewing { renew_at: self.w(), rebind_at: self.w(), expires_at: self.w(), rebinding: self.yes() },
             },
             LEASE => {
                 let mut lease = Lease::ZERO;
@@ -325,12 +331,9 @@ impl Fields {
             }
             TABLES => Call::Tables { generation: self.w(), addresses: self.c(), routes: self.c() },
             ADDRESS => Call::Address(Entry { address: self.address(), prefix: self.c(), dhcp: self.yes() }),
-            ROUTE => Call::Route(RouteEntry {
-                network: self.address(),
-                prefix: self.c(),
-                router: self.address(),
-                dhcp: self.yes(),
-            }),
+            ROUTE => {
+                Call::Route(RouteEntry { network: self.address(), prefix: self.c(), router: self.address(), dhcp: self.yes() })
+            }
             GENERATOR => Call::Generator(self.n()),
             NEW => Call::New,
             POLL => Call::Poll { step: self.w(), length: self.h(), fill: self.c() },
@@ -338,12 +341,8 @@ impl Fields {
             RESET => Call::Reset { step: self.w() },
             ADD_ADDRESS => Call::AddAddress { step: self.w(), address: self.address(), prefix: self.c() },
             DROP_ADDRESS => Call::DropAddress { step: self.w(), address: self.address(), prefix: self.c() },
-            ADD_ROUTE => {
-                Call::AddRoute { step: self.w(), network: self.address(), prefix: self.c(), router: self.address() }
-            }
-            DROP_ROUTE => {
-                Call::DropRoute { step: self.w(), network: self.address(), prefix: self.c(), router: self.address() }
-            }
+            ADD_ROUTE => Call::AddRoute { step: self.w(), network: self.address(), prefix: self.c(), router: self.address() },
+            DROP_ROUTE => Call::DropRoute { step: self.w(), network: self.address(), prefix: self.c(), router: self.address() },
             GET => Call::Get { step: self.w(), kind: self.c() },
             MASK => Call::Mask(self.address()),
             OPTION => Call::Option { kind: self.c(), reply: self.taken().to_vec() },
@@ -480,14 +479,9 @@ impl Writer {
                 .address(identifier)
                 .address(requested)
                 .end(),
-            State::Renewing { renew_at, rebind_at, expires_at, rebinding } => self
-                .fill(RENEWING)
-                .n(id)
-                .n(renew_at as u64)
-                .n(rebind_at as u64)
-                .n(expires_at as u64)
-                .yes(rebinding)
-                .end(),
+            State::Renewing { renew_at, rebind_at, expires_at, rebinding } => {
+                self.fill(RENEWING).n(id).n(renew_at as u64).n(rebind_at as u64).n(expires_at as u64).yes(rebinding).end()
+            }
         }
     }
 
@@ -534,9 +528,7 @@ impl Writer {
             Call::Route(entry) => self.route(entry),
             Call::Generator(state) => self.fill(GENERATOR).n(*state).end(),
             Call::New => self.fill(NEW).end(),
-            Call::Poll { step, length, fill } => {
-                self.fill(POLL).n(*step as u64).n(*length as u64).n(*fill as u64).end()
-            }
+            Call::Poll { step, length, fill } => self.fill(POLL).n(*step as u64).n(*length as u64).n(*fill as u64).end(),
             Call::Process { step, source, reply } => self.fill(PROCESS).n(*step as u64).address(*source).bytes(reply).end(),
             Call::Reset { step } => self.fill(RESET).n(*step as u64).end(),
             Call::AddAddress { step, address, prefix } => {
@@ -554,19 +546,14 @@ impl Writer {
             Call::Get { step, kind } => self.fill(GET).n(*step as u64).n(*kind as u64).end(),
             Call::Mask(address) => self.fill(MASK).address(*address).end(),
             Call::Option { kind, reply } => self.fill(OPTION).n(*kind as u64).bytes(reply).end(),
-            Call::Reply { step, source, kind, your, options } => self
-                .fill(REPLY)
-                .n(*step as u64)
-                .address(*source)
-                .n(*kind as u64)
-                .address(*your)
-                .bytes(options)
-                .end(),
+            Call::Reply { step, source, kind, your, options } => {
+                self.fill(REPLY).n(*step as u64).address(*source).n(*kind as u64).address(*your).bytes(options).end()
+            }
         }
     }
 
     /// The answer, and where a call may have changed it the post as it stands then.
-    pub fn answer(&mut self, call: &Call, answer: &Answer, post: &Post) {
+    pub fn answer(&mut self, call: &Call, answer: &Answer, post: &Plain) {
         let moment = post.moment as u64;
         match answer {
             Answer::Nothing => return,
@@ -592,13 +579,7 @@ impl Writer {
             Answer::Changed { number } => self.fill(CHANGED).n(moment).n(*number as u64).end(),
             Answer::Got { number, found } => {
                 let (place, length) = found.unwrap_or((0, 0));
-                self.fill(GOT)
-                    .n(moment)
-                    .n(*number as u64)
-                    .yes(found.is_some())
-                    .n(place as u64)
-                    .n(length as u64)
-                    .end()
+                self.fill(GOT).n(moment).n(*number as u64).yes(found.is_some()).n(place as u64).n(length as u64).end()
             }
             Answer::Masked { unicast, prefix } => {
                 return self.fill(MASKED).yes(*unicast).yes(prefix.is_some()).n(prefix.unwrap_or(0) as u64).end();

@@ -20,7 +20,7 @@ impl Run {
     pub fn expand(&self, call: Call) -> Call {
         match call {
             Call::Reply { step, source, kind, your, options } => {
-                let client = &self.post.client;
+                let client = &self.post.plain.client;
                 let mut items = if kind == 0 { vec![] } else { vec![53, 1, kind] };
                 items.extend_from_slice(&options);
                 let reply = message::reply(client.id, &client.settings.hardware, your, &items);
@@ -34,23 +34,23 @@ impl Run {
     pub fn snapshot(&self) -> Vec<Call> {
         let post = &self.post;
         let mut calls = vec![
-            Call::Start { moment: post.moment, generator: post.generator },
-            Call::Settings(post.client.settings.clone()),
-            Call::State { id: post.client.id, state: post.client.state },
+            Call::Start { moment: post.plain.moment, generator: post.plain.generator },
+            Call::Settings(post.plain.client.settings.clone()),
+            Call::State { id: post.plain.client.id, state: post.plain.client.state },
         ];
-        if post.client.state.renewing() {
-            calls.push(Call::Lease(Box::new(post.client.lease)));
+        if post.plain.client.state.renewing() {
+            calls.push(Call::Lease(Box::new(post.plain.client.lease)));
         }
-        let Tables { generation, addresses, routes, .. } = post.tables;
+        let Tables { generation, addresses, routes, .. } = post.plain.tables;
         calls.push(Call::Tables { generation, addresses, routes });
-        calls.extend(post.tables.address_entries().iter().map(|entry| Call::Address(*entry)));
-        calls.extend(post.tables.route_entries().iter().map(|entry| Call::Route(*entry)));
+        calls.extend(post.plain.tables.address_entries().iter().map(|entry| Call::Address(*entry)));
+        calls.extend(post.plain.tables.route_entries().iter().map(|entry| Call::Route(*entry)));
         calls
     }
 
     pub fn call(&mut self, call: &Call) -> Result<Answer, String> {
         let post = &mut self.post;
-        post.buffer.clear();
+        post.plain.buffer.clear();
         Ok(match call {
             Call::Start { moment, generator } => {
                 post.start(*moment, *generator);
@@ -70,21 +70,20 @@ impl Run {
                 Answer::Nothing
             }
             Call::Tables { generation, addresses, routes } => {
-                let tables =
-                    Tables { generation: *generation, addresses: *addresses, routes: *routes, ..Tables::default() };
+                let tables = Tables { generation: *generation, addresses: *addresses, routes: *routes, ..Tables::default() };
                 post.set_tables(tables);
                 (self.addresses, self.routes) = (0, 0);
                 Answer::Nothing
             }
             Call::Address(entry) => {
-                let mut tables = post.tables;
+                let mut tables = post.plain.tables;
                 *tables.address.get_mut(self.addresses).ok_or("address: a table has 4 places")? = *entry;
                 self.addresses += 1;
                 post.set_tables(tables);
                 Answer::Nothing
             }
             Call::Route(entry) => {
-                let mut tables = post.tables;
+                let mut tables = post.plain.tables;
                 *tables.route.get_mut(self.routes).ok_or("route: a table has 4 places")? = *entry;
                 self.routes += 1;
                 post.set_tables(tables);
@@ -98,9 +97,7 @@ impl Run {
             Call::Poll { step, length, fill } => Answer::Polled(post.poll(*step, *length, *fill)),
             Call::Process { step, source, reply } => Answer::Processed(post.process(*step, *source, reply)),
             Call::Reset { step } => Answer::WasReset(post.reset(*step)),
-            Call::AddAddress { step, address, prefix } => {
-                Answer::Changed { number: post.add_address(*step, *address, *prefix) }
-            }
+            Call::AddAddress { step, address, prefix } => Answer::Changed { number: post.add_address(*step, *address, *prefix) },
             Call::DropAddress { step, address, prefix } => {
                 Answer::Changed { number: post.drop_address(*step, *address, *prefix) }
             }

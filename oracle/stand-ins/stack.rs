@@ -50,7 +50,13 @@ impl StackInner {
         self.purged = true;
     }
 
-    pub(crate) fn transmit_ipv4_on(&mut self, _: &mut IfaceState<'_>, source: Ipv4Addr, destination: Ipv4Addr, packet: PacketBuf) {
+    pub(crate) fn transmit_ipv4_on(
+        &mut self,
+        _: &mut IfaceState<'_>,
+        source: Ipv4Addr,
+        destination: Ipv4Addr,
+        packet: PacketBuf,
+    ) {
         self.sent = Some(Sent { source, destination, packet });
     }
 }

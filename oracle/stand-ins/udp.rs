@@ -37,7 +37,8 @@ impl<'a> Packet<'a> {
     pub fn fill_checksum(&mut self, source: &IpAddr, destination: &IpAddr) {
         self.set_checksum(0);
         let (IpAddr::V4(source), IpAddr::V4(destination)) = (*source, *destination);
-        let sum = words(&source.octets()) + words(&destination.octets()) + PROTOCOL + self.buffer.len() as u32 + words(self.buffer);
+        let sum =
+            words(&source.octets()) + words(&destination.octets()) + PROTOCOL + self.buffer.len() as u32 + words(self.buffer);
         let sum = ones_complement(sum);
         let checksum = if sum == 0xffff { 0xffff } else { !sum };
         assert_eq!(checksum, by_the_rust(source, destination, self.buffer), "the Rust's own sum differs");
