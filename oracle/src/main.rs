@@ -51,7 +51,7 @@ A list of calls comes on standard input, and docs/TRACE.md says how it is writte
 malformed, an expectation or the demand does not hold, or 2 where the command is wrong.";
 
 fn main() -> ExitCode {
-    post::quiet_panics();
+    post::keep_panics();
     let words: Vec<String> = std::env::args().skip(1).collect();
     let words: Vec<&str> = words.iter().map(String::as_str).collect();
     let done = match words[..] {

@@ -55,14 +55,29 @@ pub struct Post {
 }
 
 thread_local! {
-    static PANIC: RefCell<String> = const { RefCell::new(String::new()) };
+    /// The message of a panic of the Rust's, while one is awaited.
+    static PANIC: RefCell<Option<String>> = const { RefCell::new(None) };
 }
 
-/// Keeps the message of a panic for the one who catches it, instead of printing it.
-pub fn quiet_panics() {
-    panic::set_hook(Box::new(|info| {
-        PANIC.with_borrow_mut(|text| *text = info.to_string());
+/// From here on the Rust's panics are kept for `caught`; any other is printed.
+pub fn keep_panics() {
+    let printed = panic::take_hook();
+    panic::set_hook(Box::new(move |info| {
+        let awaited = PANIC.with_borrow_mut(|panic| panic.as_mut().map(|text| *text = info.to_string()).is_some());
+        if !awaited {
+            printed(info);
+        }
     }));
+}
+
+/// Whether the Rust panics because a message does not fit.
+fn caught(call: impl FnOnce()) -> bool {
+    PANIC.set(Some(String::new()));
+    let broke = panic::catch_unwind(AssertUnwindSafe(call)).is_err();
+    let text = PANIC.take().unwrap();
+    let fits_not = text.contains("does not fit") || text.contains("out of range");
+    assert!(!broke || fits_not, "the Rust broke off: {text}");
+    broke
 }
 
 fn cidr(address: Address, prefix: u8) -> IpCidr {
@@ -225,15 +240,10 @@ impl Post {
         let due = State::Requesting { retry_at: 0, retry: 0, server: [0; 4], identifier: [0; 4], requested: [0; 4] };
         self.ifaces.0.dhcpv4.as_mut().unwrap().set(0, &due, &Lease::ZERO);
         self.pool.put(Some(vec![0; 4096]));
-        let broke = panic::catch_unwind(AssertUnwindSafe(|| {
-            self.ifaces.0.dhcpv4_poll(&mut self.inner, &mut Clock::new(Instant::ZERO));
-        }));
+        let broke = caught(|| self.ifaces.0.dhcpv4_poll(&mut self.inner, &mut Clock::new(Instant::ZERO)));
         self.inner.sent = None;
         self.pool.put(None);
-        if broke.is_err() {
-            PANIC.with_borrow(|text| assert!(text.contains("does not fit"), "the Rust broke off: {text}"));
-        }
-        broke.is_err()
+        broke
     }
 
     /// Puts a whole state into the Rust.
@@ -333,13 +343,10 @@ impl Post {
             storage
         }));
         let mut clock = Clock::new(Instant::from_millis(self.plain.moment));
-        let broke = panic::catch_unwind(AssertUnwindSafe(|| self.ifaces.0.dhcpv4_poll(&mut self.inner, &mut clock)));
+        let broke = caught(|| self.ifaces.0.dhcpv4_poll(&mut self.inner, &mut clock));
         self.pool.put(None);
         self.count();
-        if broke.is_err() {
-            PANIC.with_borrow(|text| {
-                assert!(text.contains("does not fit") || text.contains("out of range"), "the Rust broke off: {text}")
-            });
+        if broke {
             self.stale = true;
             return Polled { number: 8, ..Polled::default() };
         }

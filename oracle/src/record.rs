@@ -429,17 +429,22 @@ impl Filling<'_> {
     }
 }
 
-fn decimal(out: &mut Vec<u8>, mut n: u64) {
+fn decimal(out: &mut Vec<u8>, n: u64) {
     let mut digits = [0; 20];
     let mut at = 20;
-    loop {
+    let mut rest = n;
+    while rest >= 10 {
         at -= 1;
-        digits[at] = b'0' + (n % 10) as u8;
-        n /= 10;
-        if n == 0 {
-            break;
-        }
+        // Most numbers have 32 bits, and are divided faster as such.
+        let (next, digit) = match u32::try_from(rest) {
+            Ok(small) => ((small / 10) as u64, (small % 10) as u8),
+            Err(_) => (rest / 10, (rest % 10) as u8),
+        };
+        digits[at] = b'0' + digit;
+        rest = next;
     }
+    at -= 1;
+    digits[at] = b'0' + rest as u8;
     out.extend_from_slice(&digits[at..]);
 }
 
