@@ -42,19 +42,8 @@ impl Demand {
         if let Call::New = call {
             self.held = None;
         }
-        let step = match call {
-            Call::Poll { step, .. }
-            | Call::Process { step, .. }
-            | Call::Reset { step }
-            | Call::AddAddress { step, .. }
-            | Call::DropAddress { step, .. }
-            | Call::AddRoute { step, .. }
-            | Call::DropRoute { step, .. }
-            | Call::Get { step, .. } => *step,
-            _ => 0,
-        };
         if let Some((_, age)) = &mut self.held {
-            *age += step as u64;
+            *age += call.step() as u64;
         }
         match (call, answer) {
             (Call::Process { reply, .. }, Answer::Processed(taken)) if taken.number == 0 => self.accepted(reply, before, post),

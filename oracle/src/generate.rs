@@ -146,19 +146,8 @@ impl Generator {
 
     /// What the call gave.
     pub fn note(&mut self, call: &Call, answer: &Answer) {
-        let passed = match call {
-            Call::Poll { step, .. }
-            | Call::Process { step, .. }
-            | Call::Reset { step }
-            | Call::AddAddress { step, .. }
-            | Call::DropAddress { step, .. }
-            | Call::AddRoute { step, .. }
-            | Call::DropRoute { step, .. }
-            | Call::Get { step, .. } => *step as u64,
-            _ => 0,
-        };
         if let Some(since) = &mut self.since {
-            *since += passed;
+            *since += call.step() as u64;
         }
         match answer {
             Answer::Created { number } if *number != 0 => self.left = self.left.min(4),
@@ -301,7 +290,9 @@ impl Generator {
     fn manual_tables(&mut self) {
         let addresses = self.random.pick(&[0, 0, 0, 1, 2, 3, 4, 4]);
         let routes = self.random.pick(&[0, 0, 0, 1, 2, 3, 4, 4]);
-        self.tables(addresses, routes, false);
+        // Tables that are not whole are among those that a run may begin with: all is refused then.
+        let over = self.random.percent(1);
+        self.tables(if over { 5 } else { addresses }, routes, false);
     }
 
     fn any_tables(&mut self) {
@@ -312,12 +303,12 @@ impl Generator {
     fn tables(&mut self, addresses: u8, routes: u8, dhcp: bool) {
         let generation = self.random.pick(&[0, 0, 1, 77, u32::MAX, u32::MAX - 1]);
         self.queue.push_back(Call::Tables { generation, addresses, routes });
-        for _ in 0..addresses {
+        for _ in 0..addresses.min(4) {
             let (address, prefix) = self.random.pick(&MANUAL);
             let dhcp = dhcp && self.random.percent(40);
             self.queue.push_back(Call::Address(Entry { address, prefix, dhcp }));
         }
-        for _ in 0..routes {
+        for _ in 0..routes.min(4) {
             let (network, prefix) = self.random.pick(&MANUAL);
             let router = if self.random.percent(10) { self.random.pick(&ODD) } else { self.random.pick(&ADDRESSES) };
             let dhcp = dhcp && self.random.percent(40);
@@ -431,24 +422,8 @@ impl Generator {
         self.queue.push_back(Call::State { id: 5, state });
         self.queue.push_back(Call::Lease(Box::new(lease)));
         match what {
-            11 => {
-                self.tables(4, 1, true);
-                let Some(Call::Tables { addresses, .. }) =
-                    self.queue.iter_mut().rev().find(|call| matches!(call, Call::Tables { .. }))
-                else {
-                    unreachable!()
-                };
-                *addresses = 5;
-            }
-            12 => {
-                self.tables(1, 4, true);
-                let Some(Call::Tables { routes, .. }) =
-                    self.queue.iter_mut().rev().find(|call| matches!(call, Call::Tables { .. }))
-                else {
-                    unreachable!()
-                };
-                *routes = 255;
-            }
+            11 => self.tables(5, 1, true),
+            12 => self.tables(1, 255, true),
             13 => {
                 self.queue.push_back(Call::Tables { generation: 3, addresses: 1, routes: 1 });
                 let over = self.random.percent(50);

@@ -302,22 +302,6 @@ fn expect() -> Result<(), String> {
     if failed == 0 { Ok(()) } else { Err("the Rust answers otherwise than the paper says".into()) }
 }
 
-/// The kind of a call and its outcome, for the totals.
-fn sort(call: &Call) -> &'static str {
-    match call {
-        Call::New => "new",
-        Call::Poll { .. } => "poll",
-        Call::Process { .. } => "process",
-        Call::Reset { .. } => "reset",
-        Call::AddAddress { .. } => "add_address",
-        Call::DropAddress { .. } => "drop_address",
-        Call::AddRoute { .. } => "add_route",
-        Call::DropRoute { .. } => "drop_route",
-        Call::Get { .. } => "get",
-        _ => "other",
-    }
-}
-
 /// Half of the calls are runs of fresh clients, of which demand 3 is asked; the other half are on states of any kind, whole
 /// and not. Each call is made three times: by a post that goes on, by one that is set to the state before the call, and by
 /// the model; the three have to agree on the answer and on all that it leaves.
@@ -358,7 +342,7 @@ fn check(seed: &str, count: &str, fault: &str) -> Result<(), String> {
                 continue;
             }
             calls += 1;
-            *totals.entry((sort(&call), answer.number())).or_default() += 1;
+            *totals.entry((call.word(), answer.number())).or_default() += 1;
             for set in &before {
                 twin.call(set)?;
             }
@@ -401,8 +385,8 @@ fn check(seed: &str, count: &str, fault: &str) -> Result<(), String> {
     println!("polls with a lease in force: {}; entries lost: {}", demand.leases, demand.losses);
     println!("calls of the Rust a second, with all that is compared: {rate}");
     println!("outcomes:");
-    for ((sort, number), count) in totals {
-        println!("  {sort} {number}: {count}");
+    for ((word, number), count) in totals {
+        println!("  {word} {number}: {count}");
     }
     println!("the Rust's log lines:");
     for (line, count) in lines {

@@ -71,6 +71,42 @@ pub enum Call {
     Reply { step: u32, source: Address, kind: u8, your: Address, options: Vec<u8> },
 }
 
+impl Call {
+    /// What it adds to the moment.
+    pub fn step(&self) -> u32 {
+        match self {
+            Call::Poll { step, .. }
+            | Call::Process { step, .. }
+            | Call::Reset { step }
+            | Call::AddAddress { step, .. }
+            | Call::DropAddress { step, .. }
+            | Call::AddRoute { step, .. }
+            | Call::DropRoute { step, .. }
+            | Call::Get { step, .. }
+            | Call::Reply { step, .. } => *step,
+            _ => 0,
+        }
+    }
+
+    /// The word that its record begins with; one for all that have no answer.
+    pub fn word(&self) -> &'static str {
+        match self {
+            Call::New => "new",
+            Call::Poll { .. } => "poll",
+            Call::Process { .. } => "process",
+            Call::Reset { .. } => "reset",
+            Call::AddAddress { .. } => "add_address",
+            Call::DropAddress { .. } => "drop_address",
+            Call::AddRoute { .. } => "add_route",
+            Call::DropRoute { .. } => "drop_route",
+            Call::Get { .. } => "get",
+            Call::Mask(_) => "mask",
+            Call::Option { .. } => "option",
+            _ => "set",
+        }
+    }
+}
+
 #[derive(Clone, Debug, PartialEq)]
 pub enum Answer {
     /// A record that sets something has none.
