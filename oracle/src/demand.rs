@@ -5,6 +5,7 @@ use crate::message::{self, Ack};
 use crate::plain::*;
 use crate::post::{Polled, Post};
 use crate::record::{Answer, Call};
+use crate::run::Answers;
 
 /// An expectation that is wrong on purpose, to see that a wrong one is found.
 #[derive(Clone, Copy, Debug, PartialEq, Eq)]
@@ -150,10 +151,10 @@ impl Demand {
             || post.plain.buffer.iter().enumerate().any(|(place, byte)| *byte != lent(FILL, place));
         post.plain.moment = moment;
         if changed {
-            post.set_state(id, state);
-            post.set_lease(lease);
-            post.set_tables(tables);
-            post.set_generator(generator);
+            post.set(false, |plain| {
+                (plain.client.id, plain.client.state, plain.client.lease) = (id, state, lease);
+                (plain.tables, plain.generator) = (tables, generator);
+            });
         }
         (answer, changed)
     }

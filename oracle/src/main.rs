@@ -35,10 +35,12 @@ use std::time::Instant as Stopwatch;
 use demand::{Demand, Fault};
 use generate::{Generator, Kind};
 use plain::Plain;
+use post::Post;
 use record::{Answer, Call, Fields, LONGEST_LINE, Writer};
-use run::Run;
+use run::{Answers, Run};
 
 const USAGE: &str = "usage: oracle answer                     answers the calls on standard input
+       oracle papers                     answers them by the papers alone, without the Rust's client
        oracle expand                     turns calls written by hand, `reply` among them, into a list of calls
        oracle expect                     runs a list of calls, and holds the answers to its `#=` and `#!` lines
        oracle show                       prints calls or answers, with the messages in them in words
@@ -55,7 +57,8 @@ fn main() -> ExitCode {
     let words: Vec<String> = std::env::args().skip(1).collect();
     let words: Vec<&str> = words.iter().map(String::as_str).collect();
     let done = match words[..] {
-        ["answer"] => answer(),
+        ["answer"] => answer(Post::new()),
+        ["papers"] => answer(Plain::zero()),
         ["expand"] => expand(),
         ["expect"] => expect(),
         ["show"] => show(),
@@ -110,15 +113,15 @@ fn flush(writer: &mut Writer, all: bool) -> Result<(), String> {
     Ok(())
 }
 
-fn answer() -> Result<(), String> {
-    let (mut run, mut fields, mut writer) = (Run::new(), Fields::default(), Writer { out: vec![] });
+fn answer(post: impl Answers) -> Result<(), String> {
+    let (mut run, mut fields, mut writer) = (Run::new(post), Fields::default(), Writer { out: vec![] });
     let result = lines(|_, line| {
         if line.is_empty() || line[0] == b'#' {
             return Ok(());
         }
         let call = fields.call(line)?;
         let answer = run.call(&call)?;
-        writer.answer(&call, &answer, &run.post.plain);
+        writer.answer(&call, &answer, run.post.plain());
         flush(&mut writer, false)
     });
     flush(&mut writer, true)?;
@@ -146,8 +149,8 @@ fn show() -> Result<(), String> {
 fn generate(kind: &str, seed: &str, count: &str) -> Result<(), String> {
     let (seed, mut calls) = (number(seed)?, number(count)?);
     let mut writer = Writer { out: vec![] };
-    let mut list = |kind: Kind, seed: u64, each: &mut dyn FnMut(&mut Writer, &Call, &Answer, &Run, Vec<Call>) -> bool| {
-        let mut run = Run::new();
+    let mut list = |kind: Kind, seed: u64, each: &mut dyn FnMut(&mut Writer, &Call, &Answer, &Run<Post>, Vec<Call>) -> bool| {
+        let mut run = Run::new(Post::new());
         let mut generator = Generator::new(seed, kind);
         loop {
             let call = generator.next(&run.post);
@@ -242,7 +245,7 @@ fn boundaries(kind: &str) -> Result<(), String> {
 
 /// Turns what is written by hand into a list of calls: comments stay, a `reply` becomes the `process` that it stands for.
 fn expand() -> Result<(), String> {
-    let (mut run, mut fields, mut writer) = (Run::new(), Fields::default(), Writer { out: vec![] });
+    let (mut run, mut fields, mut writer) = (Run::new(Post::new()), Fields::default(), Writer { out: vec![] });
     let result = lines(|_, line| {
         if line.is_empty() || line[0] == b'#' {
             writer.out.extend_from_slice(line);
@@ -261,7 +264,7 @@ fn expand() -> Result<(), String> {
 /// Runs a list of calls and holds the answers to what a paper says: after a call, a comment `#=` has words that stand in
 /// its answer, `#!` words that don't, `#:` a whole line, several of them in the order in which they stand there.
 fn expect() -> Result<(), String> {
-    let (mut run, mut fields, mut writer) = (Run::new(), Fields::default(), Writer { out: vec![] });
+    let (mut run, mut fields, mut writer) = (Run::new(Post::new()), Fields::default(), Writer { out: vec![] });
     let (mut held, mut failed, mut from) = (0u64, 0u64, 0);
     lines(|number, line| {
         if line.is_empty() || line[0] == b'#' && !line.get(1).is_some_and(|c| b"=!:".contains(c)) {
@@ -323,7 +326,7 @@ fn check(seed: &str, count: &str, fault: &str) -> Result<(), String> {
     for (kind, end) in
         [(Kind::Runs, half), (Kind::States, half + half * 3 / 4), (Kind::Broken, half + half * 7 / 8), (Kind::Tables, count)]
     {
-        let (mut run, mut twin) = (Run::new(), Run::new());
+        let (mut run, mut twin) = (Run::new(Post::new()), Run::new(Post::new()));
         let mut generator = Generator::new(seed, kind);
         let mut record = Writer { out: vec![] };
         while calls < end {
@@ -352,7 +355,7 @@ fn check(seed: &str, count: &str, fault: &str) -> Result<(), String> {
                 record.answer(&call, answer, post);
             };
             let again = twin.call(&call)?;
-            let by_the_papers = model.call_by_the_papers(&call);
+            let by_the_papers = model.answer(&call);
             if (&again, &twin.post.plain) != (&answer, &run.post.plain) {
                 beside("the Rust, having come to this call:", &answer, &run.post.plain);
                 beside("the Rust, set to the state before it:", &again, &twin.post.plain);

@@ -59,6 +59,13 @@ pub fn unicast(a: Address) -> bool {
     a != [0; 4] && a != [255; 4] && !(224..=239).contains(&a[0])
 }
 
+/// The length of the prefix that an address is the mask of: ones, then zeros.
+pub fn prefix(mask: Address) -> Option<u8> {
+    let bits = u32::from_be_bytes(mask);
+    let ones = bits.leading_ones();
+    (bits.count_ones() == ones).then_some(ones as u8)
+}
+
 /// Seconds as a duration: milliseconds, at most the longest.
 fn duration(seconds: u32) -> u64 {
     (seconds as u64 * 1000).min(LONGEST as u64)
@@ -82,12 +89,11 @@ pub fn message_type(reply: &[u8]) -> Option<u8> {
 
 /// Reads an ACK that was accepted, so with a contiguous mask.
 pub fn ack(reply: &[u8], maximum: Option<u32>) -> Ack {
-    let mask = u32::from_be_bytes(option(reply, 1).and_then(address).unwrap());
     let l = option(reply, 51).and_then(seconds).map_or(120_000, duration);
     Ack {
         l: maximum.map_or(l, |maximum| l.min(maximum as u64)),
         address: address(&reply[16..20]).unwrap(),
-        prefix: mask.count_ones() as u8,
+        prefix: option(reply, 1).and_then(address).and_then(prefix).unwrap(),
         router: option(reply, 3).and_then(address).filter(|router| unicast(*router)),
     }
 }

@@ -4,6 +4,7 @@ use crate::message::{self, ACK, DISCOVER, NAK, OFFER, REQUEST};
 use crate::plain::*;
 use crate::post::{Polled, Taken};
 use crate::record::{Answer, Call};
+use crate::run::Answers;
 
 const SECOND: u32 = 1000;
 const BROADCAST: Address = [255; 4];
@@ -57,13 +58,16 @@ fn brought(lease: &Lease) -> Brought {
     Some((lease.address, lease.prefix, lease.router))
 }
 
-impl Plain {
-    fn whole(&self) -> bool {
-        creation(&self.client.settings) == 0 && self.client.whole() && self.tables.whole()
+impl Answers for Plain {
+    fn plain(&self) -> &Plain {
+        self
     }
 
-    /// Makes the call as the papers have it.
-    pub fn call_by_the_papers(&mut self, call: &Call) -> Answer {
+    fn set(&mut self, _: bool, change: impl FnOnce(&mut Plain)) {
+        change(self);
+    }
+
+    fn answer(&mut self, call: &Call) -> Answer {
         self.buffer.clear();
         match call {
             Call::New => {
@@ -142,8 +146,16 @@ impl Plain {
                 };
                 Answer::Got { number, found }
             }
+            Call::Mask(address) => Answer::Masked { unicast: message::unicast(*address), prefix: message::prefix(*address) },
+            Call::Option { kind, reply } => Answer::Optioned(message::option(reply, *kind).map(<[u8]>::to_vec)),
             _ => Answer::Nothing,
         }
+    }
+}
+
+impl Plain {
+    fn whole(&self) -> bool {
+        creation(&self.client.settings) == 0 && self.client.whole() && self.tables.whole()
     }
 
     fn manual(&mut self, step: u32, prefix: u8, change: impl FnOnce(&mut Tables) -> u8) -> Answer {
@@ -182,10 +194,7 @@ impl Plain {
             }
             (State::Requesting { .. } | State::Renewing { .. }, ACK) => {
                 let mask = message::option(reply, 1).and_then(message::address).ok_or(28)?;
-                let mask = u32::from_be_bytes(mask);
-                if mask.leading_ones() + mask.trailing_zeros() < 32 {
-                    return Err(29);
-                }
+                message::prefix(mask).ok_or(29)?;
                 if message::unicast(yours) { Ok(kind) } else { Err(30) }
             }
             (State::Requesting { .. } | State::Renewing { .. }, NAK) if !client.settings.ignore_naks => Ok(kind),

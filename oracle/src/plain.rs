@@ -181,6 +181,19 @@ pub struct Plain {
     pub buffer: Vec<u8>,
 }
 
+impl Plain {
+    /// An all-zero client with empty tables.
+    pub fn zero() -> Self {
+        Plain {
+            client: Client { settings: Settings::zero(), id: 0, state: State::Init, lease: Lease::ZERO },
+            tables: Tables::default(),
+            generator: 0,
+            moment: 0,
+            buffer: vec![],
+        }
+    }
+}
+
 /// Items of kind, length and data, one after the other, up to the end.
 pub fn whole_items(mut bytes: &[u8]) -> bool {
     while let [_, length, rest @ ..] = bytes {

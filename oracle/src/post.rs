@@ -10,7 +10,9 @@ use crate::iface::{AddrOrigin, Iface, IfaceAddr, IfaceHandle, IfaceState, Medium
 use crate::plain::*;
 use crate::pool::{PoolRef, StaticPool};
 use crate::rand::Rand;
+use crate::record::{Answer, Call};
 use crate::route::{Route, RouteError, RouteOrigin, Routes};
+use crate::run::Answers;
 use crate::stack::StackInner;
 use crate::storage::{MaybeBox, Slab, Vec as Bounded};
 use crate::time::{Clock, Duration, Instant};
@@ -121,15 +123,9 @@ impl Post {
             purged: false,
         };
         let mut post = Post {
-            plain: Plain {
-                client: Client { settings: Settings::zero(), id: 0, state: State::Init, lease: Lease::ZERO },
-                tables: Tables::default(),
-                generator: 0,
-                moment: 0,
-                buffer: vec![],
-            },
+            plain: Plain::zero(),
             seen: BTreeMap::new(),
-            settings_number: 2,
+            settings_number: 0,
             stale: true,
             ifaces: Slab(iface),
             inner,
@@ -138,47 +134,8 @@ impl Post {
             extra: vec![],
             extra_options: vec![],
         };
-        post.start(0, 0);
+        post.settings_number = post.judge_settings();
         post
-    }
-
-    /// An all-zero client with empty tables.
-    pub fn start(&mut self, moment: u32, generator: u64) {
-        self.set_settings(Settings::zero());
-        self.set_state(0, State::Init);
-        self.plain.client.lease = Lease::ZERO;
-        self.plain.tables = Tables::default();
-        self.plain.moment = moment;
-        self.plain.generator = generator;
-    }
-
-    // Setting any state at all.
-
-    pub fn set_settings(&mut self, settings: Settings) {
-        self.plain.client.settings = settings;
-        self.stale = true;
-        self.settings_number = self.judge_settings();
-    }
-
-    pub fn set_state(&mut self, id: u32, state: State) {
-        self.plain.client.id = id;
-        self.plain.client.state = state;
-        self.stale = true;
-    }
-
-    pub fn set_lease(&mut self, lease: Lease) {
-        self.plain.client.lease = lease;
-        self.stale = true;
-    }
-
-    pub fn set_tables(&mut self, tables: Tables) {
-        self.plain.tables = tables;
-        self.stale = true;
-    }
-
-    pub fn set_generator(&mut self, generator: u64) {
-        self.plain.generator = generator;
-        self.stale = true;
     }
 
     /// What creation says of the settings. 1 is the Rust's own refusal, and 7 its panic when it builds the longest message; 2
@@ -313,17 +270,16 @@ impl Post {
     // The calls.
 
     /// Creates a client from the settings; tables and generator stay. A refused client is all zero.
-    pub fn create(&mut self) -> u8 {
+    fn create(&mut self) -> u8 {
         let number = self.settings_number;
-        if number != 0 {
-            self.set_settings(Settings::zero());
-            self.set_state(0, State::Init);
-        } else {
+        self.plain.client.lease = Lease::ZERO;
+        if number == 0 {
             assert!(self.make());
             let (id, state, _) = self.ifaces.0.dhcpv4.as_ref().unwrap().plain();
-            self.set_state(id, state);
+            self.set(false, |plain| (plain.client.id, plain.client.state) = (id, state));
+        } else {
+            self.set(true, |plain| plain.client = Plain::zero().client);
         }
-        self.plain.client.lease = Lease::ZERO;
         number
     }
 
@@ -361,7 +317,7 @@ impl Post {
         answer
     }
 
-    pub fn process(&mut self, step: u32, source: Address, reply: &[u8]) -> Taken {
+    fn process(&mut self, step: u32, source: Address, reply: &[u8]) -> Taken {
         self.plain.moment = self.plain.moment.wrapping_add(step);
         if !self.whole() {
             return Taken { number: 9, purge: false };
@@ -377,7 +333,7 @@ impl Post {
         Taken { number, purge: self.inner.purged }
     }
 
-    pub fn reset(&mut self, step: u32) -> Taken {
+    fn reset(&mut self, step: u32) -> Taken {
         self.plain.moment = self.plain.moment.wrapping_add(step);
         if !self.whole() {
             return Taken { number: 9, purge: false };
@@ -405,21 +361,21 @@ impl Post {
         number
     }
 
-    pub fn add_address(&mut self, step: u32, address: Address, prefix: u8) -> u8 {
+    fn add_address(&mut self, step: u32, address: Address, prefix: u8) -> u8 {
         self.manual(step, prefix, |iface, _| {
             let address = IfaceAddr { cidr: cidr(address, prefix), origin: AddrOrigin::Manual, preferred: Preferred::Always };
             if iface.ip_addrs.push(address).is_err() { 11 } else { 0 }
         })
     }
 
-    pub fn drop_address(&mut self, step: u32, address: Address, prefix: u8) -> u8 {
+    fn drop_address(&mut self, step: u32, address: Address, prefix: u8) -> u8 {
         self.manual(step, prefix, |iface, _| {
             iface.ip_addrs.retain(|a| !(a.origin == AddrOrigin::Manual && a.cidr == cidr(address, prefix)));
             0
         })
     }
 
-    pub fn add_route(&mut self, step: u32, network: Address, prefix: u8, router: Address) -> u8 {
+    fn add_route(&mut self, step: u32, network: Address, prefix: u8, router: Address) -> u8 {
         self.manual(step, prefix, |iface, routes| {
             let mut route = Route::new_ipv4_gateway(router.into(), iface.handle);
             route.cidr = cidr(network, prefix);
@@ -431,7 +387,7 @@ impl Post {
         })
     }
 
-    pub fn drop_route(&mut self, step: u32, network: Address, prefix: u8, router: Address) -> u8 {
+    fn drop_route(&mut self, step: u32, network: Address, prefix: u8, router: Address) -> u8 {
         self.manual(step, prefix, |_, routes| {
             routes.retain(|r| {
                 !(r.origin == RouteOrigin::Manual && r.cidr == cidr(network, prefix) && r.via_router == IpAddr::V4(router.into()))
@@ -443,7 +399,7 @@ impl Post {
     // Look-ups.
 
     /// The place and length of an option's data in the lease's store, or 9 where that is not whole.
-    pub fn get(&mut self, step: u32, kind: u8) -> Result<Option<(usize, usize)>, u8> {
+    fn get(&mut self, step: u32, kind: u8) -> Result<Option<(usize, usize)>, u8> {
         self.plain.moment = self.plain.moment.wrapping_add(step);
         let lease = &self.plain.client.lease;
         match self.plain.client.state.renewing() {
@@ -465,6 +421,47 @@ impl Post {
                 *self.seen.entry(text).or_default() += 1;
             }
         });
+    }
+}
+
+impl Answers for Post {
+    fn plain(&self) -> &Plain {
+        &self.plain
+    }
+
+    fn set(&mut self, settings: bool, change: impl FnOnce(&mut Plain)) {
+        change(&mut self.plain);
+        self.stale = true;
+        if settings {
+            self.settings_number = self.judge_settings();
+        }
+    }
+
+    fn answer(&mut self, call: &Call) -> Answer {
+        self.plain.buffer.clear();
+        match call {
+            Call::New => Answer::Created { number: self.create() },
+            Call::Poll { step, length, fill } => Answer::Polled(self.poll(*step, *length, *fill)),
+            Call::Process { step, source, reply } => Answer::Processed(self.process(*step, *source, reply)),
+            Call::Reset { step } => Answer::WasReset(self.reset(*step)),
+            Call::AddAddress { step, address, prefix } => Answer::Changed { number: self.add_address(*step, *address, *prefix) },
+            Call::DropAddress { step, address, prefix } => {
+                Answer::Changed { number: self.drop_address(*step, *address, *prefix) }
+            }
+            Call::AddRoute { step, network, prefix, router } => {
+                Answer::Changed { number: self.add_route(*step, *network, *prefix, *router) }
+            }
+            Call::DropRoute { step, network, prefix, router } => {
+                Answer::Changed { number: self.drop_route(*step, *network, *prefix, *router) }
+            }
+            Call::Get { step, kind } => match self.get(*step, *kind) {
+                Ok(found) => Answer::Got { number: 0, found },
+                Err(number) => Answer::Got { number, found: None },
+            },
+            Call::Mask(address) => mask(*address),
+            Call::Option { kind, reply } => Answer::Optioned(option(reply, *kind)),
+            _ => Answer::Nothing,
+        }
     }
 }
 
@@ -500,13 +497,13 @@ fn outcome(hardware: &[u8; 6], reply: &[u8]) -> u8 {
 // The Rust's own readers, for the layers below the client.
 
 /// Whether the address is unicast, and the prefix length that it gives as a mask.
-pub fn mask(address: Address) -> (bool, Option<u8>) {
+fn mask(address: Address) -> Answer {
     let address = Ipv4Addr::from(address);
-    (address.x_is_unicast(), address.prefix_len())
+    Answer::Masked { unicast: address.x_is_unicast(), prefix: address.prefix_len() }
 }
 
 /// The data of the first such option of a reply, which may be too short to have any.
-pub fn option(reply: &[u8], kind: u8) -> Option<Vec<u8>> {
+fn option(reply: &[u8], kind: u8) -> Option<Vec<u8>> {
     let mut reply = reply.to_vec();
     let packet = DhcpPacket::new_checked(&mut reply).ok()?;
     packet.option(kind).map(<[u8]>::to_vec)

@@ -1,26 +1,35 @@
-//! Runs a list of calls on a post.
+//! Runs a list of calls: what sets the post, and who answers the rest.
 use crate::message;
 use crate::plain::*;
-use crate::post::{self, Post};
 use crate::record::{Answer, Call};
 
-pub struct Run {
-    pub post: Post,
+/// Whoever answers calls: the Rust's client, or the papers.
+pub trait Answers {
+    /// The post as it stands.
+    fn plain(&self) -> &Plain;
+    /// The same, to be set; whether the settings are among what changes.
+    fn set(&mut self, settings: bool, change: impl FnOnce(&mut Plain));
+    /// Makes a call, one that has an answer.
+    fn answer(&mut self, call: &Call) -> Answer;
+}
+
+pub struct Run<A> {
+    pub post: A,
     /// How many entries have been put into the tables since they were set.
     addresses: usize,
     routes: usize,
 }
 
-impl Run {
-    pub fn new() -> Self {
-        Run { post: Post::new(), addresses: 0, routes: 0 }
+impl<A: Answers> Run<A> {
+    pub fn new(post: A) -> Self {
+        Run { post, addresses: 0, routes: 0 }
     }
 
     /// A reply by hand becomes the call that it stands for, to the client as it is now; any other call is itself.
     pub fn expand(&self, call: Call) -> Call {
         match call {
             Call::Reply { step, source, kind, your, options } => {
-                let client = &self.post.plain.client;
+                let client = &self.post.plain().client;
                 let mut items = if kind == 0 { vec![] } else { vec![53, 1, kind] };
                 items.extend_from_slice(&options);
                 let reply = message::reply(client.id, &client.settings.hardware, your, &items);
@@ -32,91 +41,53 @@ impl Run {
 
     /// The records that set a post as this one stands.
     pub fn snapshot(&self) -> Vec<Call> {
-        let post = &self.post;
+        let Plain { client, tables, generator, moment, .. } = self.post.plain();
         let mut calls = vec![
-            Call::Start { moment: post.plain.moment, generator: post.plain.generator },
-            Call::Settings(post.plain.client.settings.clone()),
-            Call::State { id: post.plain.client.id, state: post.plain.client.state },
+            Call::Start { moment: *moment, generator: *generator },
+            Call::Settings(client.settings.clone()),
+            Call::State { id: client.id, state: client.state },
         ];
-        if post.plain.client.state.renewing() {
-            calls.push(Call::Lease(Box::new(post.plain.client.lease)));
+        if client.state.renewing() {
+            calls.push(Call::Lease(Box::new(client.lease)));
         }
-        let Tables { generation, addresses, routes, .. } = post.plain.tables;
+        let Tables { generation, addresses, routes, .. } = *tables;
         calls.push(Call::Tables { generation, addresses, routes });
-        calls.extend(post.plain.tables.address_entries().iter().map(|entry| Call::Address(*entry)));
-        calls.extend(post.plain.tables.route_entries().iter().map(|entry| Call::Route(*entry)));
+        calls.extend(tables.address_entries().iter().map(|entry| Call::Address(*entry)));
+        calls.extend(tables.route_entries().iter().map(|entry| Call::Route(*entry)));
         calls
     }
 
     pub fn call(&mut self, call: &Call) -> Result<Answer, String> {
         let post = &mut self.post;
-        post.plain.buffer.clear();
-        Ok(match call {
+        match call {
             Call::Start { moment, generator } => {
-                post.start(*moment, *generator);
+                post.set(true, |plain| *plain = Plain { moment: *moment, generator: *generator, ..Plain::zero() });
                 (self.addresses, self.routes) = (0, 0);
-                Answer::Nothing
             }
-            Call::Settings(settings) => {
-                post.set_settings(settings.clone());
-                Answer::Nothing
-            }
+            Call::Settings(settings) => post.set(true, |plain| plain.client.settings = settings.clone()),
             Call::State { id, state } => {
-                post.set_state(*id, *state);
-                Answer::Nothing
+                post.set(false, |plain| (plain.client.id, plain.client.state) = (*id, *state));
             }
-            Call::Lease(lease) => {
-                post.set_lease(**lease);
-                Answer::Nothing
-            }
+            Call::Lease(lease) => post.set(false, |plain| plain.client.lease = **lease),
             Call::Tables { generation, addresses, routes } => {
                 let tables = Tables { generation: *generation, addresses: *addresses, routes: *routes, ..Tables::default() };
-                post.set_tables(tables);
+                post.set(false, |plain| plain.tables = tables);
                 (self.addresses, self.routes) = (0, 0);
-                Answer::Nothing
             }
+            Call::Address(_) if self.addresses == MOST_ENTRIES => return Err("address: a table has 4 places".into()),
             Call::Address(entry) => {
-                let mut tables = post.plain.tables;
-                *tables.address.get_mut(self.addresses).ok_or("address: a table has 4 places")? = *entry;
+                post.set(false, |plain| plain.tables.address[self.addresses] = *entry);
                 self.addresses += 1;
-                post.set_tables(tables);
-                Answer::Nothing
             }
+            Call::Route(_) if self.routes == MOST_ENTRIES => return Err("route: a table has 4 places".into()),
             Call::Route(entry) => {
-                let mut tables = post.plain.tables;
-                *tables.route.get_mut(self.routes).ok_or("route: a table has 4 places")? = *entry;
+                post.set(false, |plain| plain.tables.route[self.routes] = *entry);
                 self.routes += 1;
-                post.set_tables(tables);
-                Answer::Nothing
             }
-            Call::Generator(state) => {
-                post.set_generator(*state);
-                Answer::Nothing
-            }
-            Call::New => Answer::Created { number: post.create() },
-            Call::Poll { step, length, fill } => Answer::Polled(post.poll(*step, *length, *fill)),
-            Call::Process { step, source, reply } => Answer::Processed(post.process(*step, *source, reply)),
-            Call::Reset { step } => Answer::WasReset(post.reset(*step)),
-            Call::AddAddress { step, address, prefix } => Answer::Changed { number: post.add_address(*step, *address, *prefix) },
-            Call::DropAddress { step, address, prefix } => {
-                Answer::Changed { number: post.drop_address(*step, *address, *prefix) }
-            }
-            Call::AddRoute { step, network, prefix, router } => {
-                Answer::Changed { number: post.add_route(*step, *network, *prefix, *router) }
-            }
-            Call::DropRoute { step, network, prefix, router } => {
-                Answer::Changed { number: post.drop_route(*step, *network, *prefix, *router) }
-            }
-            Call::Get { step, kind } => match post.get(*step, *kind) {
-                Ok(found) => Answer::Got { number: 0, found },
-                Err(number) => Answer::Got { number, found: None },
-            },
-            Call::Mask(address) => {
-                let (unicast, prefix) = post::mask(*address);
-                Answer::Masked { unicast, prefix }
-            }
-            Call::Option { kind, reply } => Answer::Optioned(post::option(reply, *kind)),
+            Call::Generator(state) => post.set(false, |plain| plain.generator = *state),
             Call::Reply { .. } => return Err("reply: a list of calls has `process`; expand this one first".into()),
-        })
+            call => return Ok(post.answer(call)),
+        }
+        Ok(Answer::Nothing)
     }
 }
