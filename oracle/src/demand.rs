@@ -47,7 +47,7 @@ impl Demand {
             *age += call.step() as u64;
         }
         match (call, answer) {
-            (Call::Process { reply, .. }, Answer::Processed(taken)) if taken.number == 0 => self.accepted(reply, before, post),
+            (Call::Process { reply, .. }, Answer::Processed(taken)) if taken.number == 0 => self.accepted(reply, before, post)?,
             (Call::Reset { .. }, Answer::WasReset(taken)) if taken.number == 0 => self.held = None,
             (Call::Poll { .. }, Answer::Polled(polled)) if polled.number == 0 => {
                 let late = (self.fault == Fault::LateExpiry) as u64;
@@ -69,10 +69,16 @@ impl Demand {
         self.tables(&post.plain.tables)
     }
 
-    fn accepted(&mut self, reply: &[u8], before: &Tables, post: &Post) {
+    fn accepted(&mut self, reply: &[u8], before: &Tables, post: &Post) -> Result<(), String> {
         match message::message_type(reply) {
             Some(message::ACK) => {
-                let ack = message::ack(reply, post.plain.client.settings.maximum);
+                let maximum = post.plain.client.settings.maximum;
+                let ack = message::ack(reply, maximum);
+                // Document 01's own claim on the order of the moments.
+                let (renew, rebind, l) = message::times(reply, maximum);
+                if maximum.is_none_or(|maximum| maximum >= 8) && !(renew <= rebind && rebind <= l) {
+                    return Err(format!("renew after {renew} ms, rebind after {rebind}, expiry after {l}"));
+                }
                 let held = self.held.map(|(ack, _)| ack);
                 if held.map(|h| (h.address, h.prefix)) != Some((ack.address, ack.prefix)) || self.fault == Fault::LostReturns {
                     self.lost_address = before.address_entries().iter().filter(|entry| !entry.dhcp).count() == MOST_ENTRIES;
@@ -87,6 +93,7 @@ impl Demand {
             Some(message::NAK) => self.held = None,
             _ => {}
         }
+        Ok(())
     }
 
     fn tables(&self, tables: &Tables) -> Result<(), String> {

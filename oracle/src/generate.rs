@@ -448,10 +448,12 @@ impl Generator {
         self.within(step)
     }
 
-    /// A step that keeps the premise.
+    /// A step that keeps the premise, which says nothing of the time before the first poll.
     pub fn within(&mut self, step: u32) -> u32 {
-        let passed = self.since.unwrap_or(0);
-        (step as u64).min(PREMISE.saturating_sub(passed)) as u32
+        match self.since {
+            None => step,
+            Some(passed) => (step as u64).min(PREMISE.saturating_sub(passed)) as u32,
+        }
     }
 
     fn poll(&mut self, post: &Post) -> Call {
