@@ -33,7 +33,8 @@ pub const OPTION: &str = "option kind=%c reply=%x";
 pub const REPLY: &str = "reply step=%w source=%a type=%c your=%a options=%x";
 
 pub const CREATED: &str = "created moment=%w number=%c";
-pub const POLLED: &str = "polled moment=%w number=%c length=%h source=%a destination=%a wake=%w purge=%b";
+pub const POLLED: &str = "polled moment=%w number=%c wake=%w purge=%b";
+pub const SENT: &str = "sent length=%h source=%a destination=%a";
 pub const BUFFER: &str = "buffer bytes=%x";
 pub const PROCESSED: &str = "processed moment=%w number=%c purge=%b";
 pub const WAS_RESET: &str = "was_reset moment=%w number=%c purge=%b";

@@ -223,15 +223,8 @@ impl Writer {
                 self.settings(&post.client.settings);
             }
             Answer::Polled(p) => {
-                self.fill(POLLED)
-                    .n(moment)
-                    .n(p.number as u64)
-                    .n(p.length as u64)
-                    .address(p.source)
-                    .address(p.destination)
-                    .n(p.wake as u64)
-                    .yes(p.purge)
-                    .end();
+                self.fill(POLLED).n(moment).n(p.number as u64).n(p.wake as u64).yes(p.purge).end();
+                self.fill(SENT).n(p.length as u64).address(p.source).address(p.destination).end();
                 let Call::Poll { fill, .. } = call else { unreachable!() };
                 self.fill(BUFFER).bytes(written(&post.buffer, p.length as usize, *fill)).end();
             }
