@@ -368,9 +368,8 @@ pub fn replies() -> Vec<Call> {
     for state in [State::Init, discovering(), requesting(), renewing()] {
         list.at(standard(), state);
         list.calls.push(Call::Reset { step: 3 });
-        list.calls.push(Call::Reset { step: 0 });
-        list.at(standard(), state);
         for kind in [53, 54, 1, 51, 0, 255] {
+            list.at(standard(), state);
             list.calls.push(Call::Get { step: 0, kind });
         }
     }
