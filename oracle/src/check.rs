@@ -12,6 +12,11 @@ use crate::record::{Answer, Call};
 use crate::run::{Answers, Run};
 use crate::write::Writer;
 
+/// Whether the answer is a refusal that the Rust does not know: 9, and 2 to 6 at creation.
+fn by_definition(call: &Call, answer: &Answer) -> bool {
+    answer.number() == 9 || *call == Call::New && (2..=6).contains(&answer.number())
+}
+
 /// Half of the calls are runs of fresh clients, of which demand 3 is asked; the other half are on states of any kind, whole
 /// and not. Each call is made three times: by a post that goes on, by one that is set to the state before the call, and by
 /// the model; the three have to agree on the answer and on all that it leaves.
@@ -28,7 +33,7 @@ pub fn check(seed: &str, count: &str, fault: &str) -> Result<(), String> {
     let mut totals: BTreeMap<(&str, u8), u64> = BTreeMap::new();
     let mut lines: BTreeMap<&str, u64> = BTreeMap::new();
     let mut demand = Demand::new(fault);
-    let (mut calls, mut runs, mut shown) = (0u64, 0u64, 0);
+    let (mut calls, mut apart, mut runs, mut shown) = (0u64, 0u64, 0u64, 0);
     let half = count / 2;
     for (kind, end) in
         [(Kind::Runs, half), (Kind::States, half + half * 3 / 4), (Kind::Broken, half + half * 7 / 8), (Kind::Tables, count)]
@@ -52,6 +57,7 @@ pub fn check(seed: &str, count: &str, fault: &str) -> Result<(), String> {
                 continue;
             }
             calls += 1;
+            apart += by_definition(&call, &answer) as u64;
             *totals.entry((call.word(), answer.number())).or_default() += 1;
             for set in &before {
                 twin.call(set)?;
@@ -90,8 +96,9 @@ pub fn check(seed: &str, count: &str, fault: &str) -> Result<(), String> {
         }
     }
     let rate = ((2 * calls + demand.probes) as f64 / begun.elapsed().as_secs_f64()) as u64;
-    println!("{calls} calls, each by the Rust twice and by the model: no difference");
-    println!("{half} of them in {runs} runs of fresh clients, and {} polls tried beside them: demand 3 holds", demand.probes);
+    println!("{} calls, each by the Rust twice and by the model: no difference", calls - apart);
+    println!("{apart} more are refused by a definition before the Rust is asked, by 9 or by 2 to 6: compared with nothing");
+    println!("{half} of all in {runs} runs of fresh clients, and {} polls tried beside them: demand 3 holds", demand.probes);
     println!("polls with a lease in force: {}; entries lost: {}", demand.leases, demand.losses);
     println!("calls of the Rust a second, with all that is compared: {rate}");
     println!("outcomes:");

@@ -44,6 +44,7 @@ use write::Writer;
 
 const USAGE: &str = "usage: oracle answer                     answers the calls on standard input
        oracle papers                     answers them by the papers alone, without the Rust's client
+       oracle lines                      which of the Rust's log lines they reach, and how often
        oracle expand                     turns calls written by hand, `reply` among them, into a list of calls
        oracle expect                     runs a list of calls, and holds the answers to its `#=` and `#!` lines
        oracle show                       prints calls or answers, with the messages in them in words
@@ -62,6 +63,7 @@ fn main() -> ExitCode {
     let done = match words[..] {
         ["answer"] => answer(Post::new()),
         ["papers"] => answer(Plain::zero()),
+        ["lines"] => log_lines(),
         ["expand"] => expand(),
         ["expect"] => expect(),
         ["show"] => show(),
@@ -121,6 +123,20 @@ fn answer(post: impl Answers) -> Result<(), String> {
     });
     writer.flush(true)?;
     result
+}
+
+fn log_lines() -> Result<(), String> {
+    let (mut run, mut fields) = (Run::new(Post::new()), Fields::default());
+    lines(|_, line| {
+        if !line.is_empty() && line[0] != b'#' {
+            run.call(&fields.call(line)?)?;
+        }
+        Ok(())
+    })?;
+    for (line, count) in run.post.seen {
+        println!("{count} {line}");
+    }
+    Ok(())
 }
 
 fn show() -> Result<(), String> {

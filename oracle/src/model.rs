@@ -1,5 +1,7 @@
-//! The client as document 01 and the RFCs have it, written from them and not from the Rust: `check` compares each answer and
-//! each state of the Rust's with it, so that our reading of the papers is tried before anything is proved of it.
+//! The client as document 01 and the RFCs have it, in code of its own: `check` compares each answer and each state of the
+//! Rust's with it, so that our reading of the papers is tried before anything is proved of it. Where document 01 makes the
+//! Rust the measure (the generator, moments exactly 2^31 apart, the order in which the waking moment is put together) it says
+//! what the Rust does. Number 9 is judged here and in `post` by the same functions of `plain`.
 use crate::message::{self, ACK, DISCOVER, NAK, OFFER, REQUEST};
 use crate::plain::*;
 use crate::post::{Polled, Taken};
