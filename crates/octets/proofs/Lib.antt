@@ -1,0 +1,3 @@
+pub mod Runs
+pub mod Items
+pub mod Masks

@@ -1,0 +1,4 @@
+pub mod Words
+pub mod Addresses
+pub mod Runs
+pub mod Items
