@@ -103,3 +103,35 @@ placed-not out buf h = (simp (lt-leb _ _ h), simp (lt-leb _ _ h))
 pub placed-none : (buf : List ℕ) → (placedLength [] buf ≡ 0) × (placed [] buf ≡ buf)
 unfolding over
 placed-none buf = let e = placed-whole [] buf (omega arith) in (e .0, e .1)
+
+-- past the end of a buffer nothing is written
+placed-nil : (out : List ℕ) → (placedLength out [] ≡ 0) × (placed out [] ≡ [])
+placed-nil [] = placed-none []
+placed-nil (x ∷ out) = placed-not (x ∷ out) [] (omega arith)
+
+pub placed-past : (out xs : List ℕ) (at : ℕ) → length xs < at → (placedLength out (drop at xs) ≡ 0) × (take at xs ++ placed out (drop at xs) ≡ xs)
+placed-past out xs at h =
+    let h' : length xs ≤ at = omega arith in
+    rw (drop-of-length-le xs h')
+    (placed-nil out .0, ap (λ (l : List ℕ). take at xs ++ l) (placed-nil out .1) ∙ append-nil (take at xs) ∙ take-all at xs h')
+
+-- a writer that was lent the rest from `at` on
+pub placed-lent : (out xs ys : List ℕ) (at r : ℕ) → r ≡ placedLength out (take (length xs - at) (drop at xs)) → ys ≡ placed out (take (length xs - at) (drop at xs))
+    → (r ≡ placedLength out (drop at xs)) × (putMid at (length xs - at) xs ys ≡ take at xs ++ placed out (drop at xs))
+placed-lent out xs ys at r er ey = (
+  er ∙ ap (placedLength out) (part-tail at xs),
+  put-tail at xs ys ∙ ap (λ (l : List ℕ). take at xs ++ l) (ey ∙ ap (placed out) (part-tail at xs)),
+)
+
+-- lists of other lengths differ
+else-false : (t : Bool) {r : Bool} → r ≡ false → (if t then r else false) ≡ false
+unfolding if_then_else_
+else-false true e = e
+else-false false e = refl
+
+pub same-lengths : (x y : List ℕ) → (length x ≡ length y → ⊥) → sameBytes x y ≡ false
+unfolding sameBytes
+same-lengths [] [] h = absurd (h refl)
+same-lengths [] (b ∷ y) h = refl
+same-lengths (a ∷ x) [] h = refl
+same-lengths (a ∷ x) (b ∷ y) h = else-false (eqb a b) (same-lengths x y (λ e. h (ap suc e)))

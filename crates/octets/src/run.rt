@@ -1,7 +1,8 @@
 // Runs of octets: whether two are equal, and writing one over the start of a lent buffer, whole or not at all.
 ghost use mathlib.Core.Path.{_≡_};
 ghost use Prim.Native.Nat.{_+_, _≤_};
-ghost use lib.ListN.{length};
+ghost use mathlib.Core.List.{_++_};
+ghost use lib.ListN.{length, take, drop};
 ghost use Rattle.octets.specs.Runs.{sameBytes, over, placed, placedLength};
 ghost use Rattle.octets.specs.Items.{option, optionBytes};
 
@@ -72,4 +73,25 @@ pub fn put_option(buf: &mut [u8], kind: u8, body: &[u8]) -> usize
     }
     option_in(buf, kind, body);
     n + 2
+}
+
+// Writes body over what is left of buf from `at` on, if it fits there, and answers how many octets were written.
+pub fn put_bytes_at(buf: &mut [u8], at: usize, body: &[u8]) -> usize
+    ensures { λ r. ⌜ (r ≡ placedLength (now (body .entry)) (drop at (now (buf .entry)))) × (now (buf .exit) ≡ take at (now (buf .entry)) ++ placed (now (body .entry)) (drop at (now (buf .entry)))) ⌝ }
+{
+    if buf.len() < at {
+        return 0;
+    }
+    put_bytes(&mut buf[at..], body)
+}
+
+// Writes an option over what is left of buf from `at` on, if its data has at most 255 octets and it fits there, and
+// answers how many octets were written.
+pub fn put_option_at(buf: &mut [u8], at: usize, kind: u8, body: &[u8]) -> usize
+    ensures { λ r. ⌜ (r ≡ placedLength (optionBytes kind (now (body .entry))) (drop at (now (buf .entry)))) × (now (buf .exit) ≡ take at (now (buf .entry)) ++ placed (optionBytes kind (now (body .entry))) (drop at (now (buf .entry)))) ⌝ }
+{
+    if buf.len() < at {
+        return 0;
+    }
+    put_option(&mut buf[at..], kind, body)
 }

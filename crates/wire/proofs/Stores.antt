@@ -1,0 +1,114 @@
+-- Laws of the store. Assumes nothing.
+use Prim.Native.Nat.{ℕ, zero, suc, _+_, _-_, _≤_, _<_, min}
+use mathlib.Core.Bool.{Bool, true, false}
+use mathlib.Core.Path.{_≡_, refl, sym, ap, _∙_}
+use mathlib.Core.List.{List, [], _∷_, _++_}
+use native.Mathlib.Omega.{arith}
+use native.Mathlib.Decide.{decLe}
+use lib.Seq.{take-all}
+use native.Mathlib.Nat.{add-zero}
+use lib.ListN.{length, getD, take, drop, length-drop}
+use borrow.Author.Tests.{le-leb, lt-leb, eq-eqb, ne-eqb}
+use Rattle.clock.specs.Choice.{if_then_else_}
+use Rattle.octets.specs.Runs.{over, placed, placedLength}
+use Rattle.octets.specs.Items.{option, optionBytes, wholeItems}
+use Rattle.octets.proofs.Runs.{placed-whole}
+use Rattle.octets.proofs.Items.{bytes-of}
+use Rattle.wire.specs.Options.{DhcpOption}
+use Rattle.wire.specs.Stored.{pushed, allPushed, placeFrom, withOption, used, wholeStore, emptyStore, storeOf}
+use Rattle.wire.specs.declared.store.Store.{Store}
+use Rattle.wire.specs.declared.store.Got.the-variants.{Absent, At, Refused}
+
+-- an option that does not fit, and one that does
+pub push-passed : (store : Store) (kind : ℕ) (body : List ℕ) → 256 < store .len + (2 + length body) → store ≡ pushed store kind body
+unfolding pushed if_then_else_
+push-passed store kind body h =
+    let e : 256 < store .len + length (option kind body) = omega arith in
+    simp (lt-leb _ _ e)
+
+push-kept : (store : Store) (kind : ℕ) (body : List ℕ) → store .len + (2 + length body) ≤ 256 → withOption store kind body ≡ pushed store kind body
+unfolding pushed if_then_else_
+push-kept store kind body h =
+    let e : store .len + length (option kind body) ≤ 256 = omega arith in
+    simp (le-leb _ _ e)
+
+-- what a writer that is lent the store's octets leaves
+pub push-written : (store : Store) (kind : ℕ) (body : List ℕ) (r : ℕ) (ys : List ℕ) → length (store .bytes) ≡ 256 → store .len + (2 + length body) ≤ 256
+    → r ≡ placedLength (optionBytes kind body) (drop (store .len) (store .bytes))
+    → ys ≡ take (store .len) (store .bytes) ++ placed (optionBytes kind body) (drop (store .len) (store .bytes))
+    → (r ≡ 2 + length body) × (_≡_ {A = Store} (record { bytes = ys; len = store .len + r }) (pushed store kind body))
+push-written store kind body r ys size h er ey =
+    let room : length (option kind body) ≤ length (drop (store .len) (store .bytes)) = simp length-drop (omega arith) in
+    let p = placed-whole (option kind body) (drop (store .len) (store .bytes)) room in
+    let b = bytes-of kind body (omega arith) in
+    let n : r ≡ length (option kind body) = er ∙ rw b (p .0) in
+    let l : ys ≡ used store ++ over (option kind body) (drop (store .len) (store .bytes)) = ey ∙ ap (λ (x : List ℕ). used store ++ x) (rw b (p .1)) in
+    (omega arith, (λ k. record { bytes = l k; len = store .len + n k }) ∙ push-kept store kind body h)
+
+-- one option more of a list, and the end of it
+pub all-more : (store : Store) (o : DhcpOption) (os : List DhcpOption) → allPushed store (o ∷ os) ≡ allPushed (pushed store (o .code) (o .body)) os
+unfolding allPushed
+all-more store o os = refl
+
+pub all-end : (store : Store) → allPushed store [] ≡ store
+unfolding allPushed
+all-end store = refl
+
+-- octets of the item before are passed over
+skip : (kind at k : ℕ) (xs : List ℕ) → placeFrom kind at k xs ≡ placeFrom kind (at + k) 0 (drop k xs)
+unfolding placeFrom
+skip kind at zero xs = rw (add-zero at)
+skip kind at (suc k) [] = refl
+skip kind at (suc k) (x ∷ xs) =
+    let e : at + 1 + k ≡ at + suc k = omega arith in
+    skip kind (at + 1) k xs ∙ rw e
+
+past : (kind at k : ℕ) (xs : List ℕ) → length xs ≤ k → placeFrom kind at k xs ≡ Absent
+unfolding placeFrom
+past kind at k [] h = refl
+past kind at zero (x ∷ xs) h = absurd (omega arith)
+past kind at (suc k) (x ∷ xs) h = past kind (at + 1) k xs (omega arith)
+
+pub place-none : (kind at : ℕ) (l : List ℕ) → length l < 2 → placeFrom kind at 0 l ≡ Absent
+unfolding placeFrom
+place-none kind at [] h = refl
+place-none kind at (x ∷ []) h = refl
+place-none kind at (x ∷ y ∷ l) h = absurd (omega arith)
+
+pub place-here : (kind at : ℕ) (l : List ℕ) → 2 ≤ length l → getD l 0 0 ≡ kind → placeFrom kind at 0 l ≡ At (at + 2) (getD l 1 0)
+unfolding placeFrom if_then_else_
+place-here kind at [] h e = absurd (omega arith)
+place-here kind at (x ∷ []) h e = absurd (omega arith)
+place-here kind at (x ∷ n ∷ l) h e = simp (eq-eqb x kind e)
+
+pub place-later : (kind at : ℕ) (l : List ℕ) → 2 ≤ length l → (getD l 0 0 ≡ kind → ⊥)
+    → placeFrom kind at 0 l ≡ placeFrom kind (at + (2 + getD l 1 0)) 0 (drop (2 + getD l 1 0) l)
+unfolding placeFrom if_then_else_
+place-later kind at [] h e = absurd (omega arith)
+place-later kind at (x ∷ []) h e = absurd (omega arith)
+place-later kind at (x ∷ n ∷ l) h e =
+    let f : at + 2 + n ≡ at + (2 + n) = omega arith in
+    let g : 2 + n ≡ suc (suc n) = omega arith in
+    simp (ne-eqb x kind e) (skip kind (at + 2) n l ∙ rw (f, g))
+
+pub place-cut : (kind at : ℕ) (l : List ℕ) → 2 ≤ length l → (getD l 0 0 ≡ kind → ⊥) → length l < 2 + getD l 1 0 → placeFrom kind at 0 l ≡ Absent
+unfolding placeFrom if_then_else_
+place-cut kind at [] h e c = absurd (omega arith)
+place-cut kind at (x ∷ []) h e c = absurd (omega arith)
+place-cut kind at (x ∷ n ∷ l) h e c = simp (ne-eqb x kind e) (past kind (at + 2) n l (omega arith))
+
+-- no more is in use than there is
+pub take-most : (bytes : List ℕ) (n : ℕ) → length bytes ≡ 256 → take (min n 256) bytes ≡ take n bytes
+take-most bytes n size = elim (decLe n 256) [
+  | yes h ↦ let e : min n 256 ≡ n = omega arith in rw e
+  | no h ↦ take-all (min n 256) bytes (omega arith) ∙ sym (take-all n bytes (omega arith))
+]
+
+-- wholeness by the length in use
+pub whole-over : (store : Store) → 256 < store .len → wholeStore store ≡ false
+unfolding wholeStore if_then_else_
+whole-over store h = simp (lt-leb _ _ h)
+
+pub whole-within : (store : Store) → store .len ≤ 256 → wholeStore store ≡ wholeItems (used store)
+unfolding wholeStore if_then_else_
+whole-within store h = simp (le-leb _ _ h)
