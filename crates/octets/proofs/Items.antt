@@ -1,10 +1,10 @@
 -- Laws of items. Assumes nothing.
 use mathlib.Core.Path.{_≡_, refl, sym, ap, _∙_}
 use mathlib.Core.Bool.{Bool, true, false}
-use mathlib.Core.List.{List, [], _∷_}
+use mathlib.Core.List.{List, [], _∷_, _++_}
 use Prim.Native.Nat.{ℕ, zero, suc, _+_, _-_, _≤_, _<_}
 use native.Mathlib.Omega.{arith}
-use lib.ListN.{length, drop, getD}
+use lib.ListN.{length, drop, getD, drop-of-length-le}
 use borrow.Author.Tests.{le-leb, lt-leb}
 use Rattle.clock.specs.Choice.{if_then_else_}
 use Rattle.octets.specs.Items.{option, optionBytes, wholeFrom, wholeItems}
@@ -53,3 +53,20 @@ bytes-of kind body h = simp (le-leb _ _ h)
 pub bytes-long : (kind : ℕ) (body : List ℕ) → 255 < length body → optionBytes kind body ≡ []
 unfolding optionBytes if_then_else_
 bytes-long kind body h = simp (lt-leb _ _ h)
+
+-- whole items before others
+items-then : (n : ℕ) (l m : List ℕ) → wholeFrom n l ≡ true → wholeFrom n (l ++ m) ≡ wholeItems m
+unfolding wholeFrom
+items-then zero [] m e = refl
+items-then zero (k ∷ []) m e = cc
+items-then zero (k ∷ size ∷ l) m e = items-then size l m e
+items-then (suc n) [] m e = cc
+items-then (suc n) (x ∷ l) m e = items-then n l m e
+
+pub items-append : (l m : List ℕ) → wholeItems l ≡ true → wholeItems (l ++ m) ≡ wholeItems m
+items-append l m e = items-then 0 l m e
+
+-- an option is one item
+pub items-option : (kind : ℕ) (body : List ℕ) → wholeItems (option kind body) ≡ true
+unfolding wholeFrom
+items-option kind body = whole-skip (length body) body (omega arith) ∙ rw (drop-of-length-le body {i = length body} (omega arith))

@@ -1,20 +1,20 @@
 -- Laws of the store. Assumes nothing.
 use Prim.Native.Nat.{ℕ, zero, suc, _+_, _-_, _≤_, _<_, min}
 use mathlib.Core.Bool.{Bool, true, false}
-use mathlib.Core.Path.{_≡_, refl, sym, ap, _∙_}
+use mathlib.Core.Path.{_≡_, refl, sym, ap, subst, _∙_}
 use mathlib.Core.List.{List, [], _∷_, _++_}
 use native.Mathlib.Omega.{arith}
 use native.Mathlib.Decide.{decLe}
-use lib.Seq.{take-all}
+use lib.Seq.{take-all, take-append-add, length-take-le}
 use native.Mathlib.Nat.{add-zero}
-use lib.ListN.{length, getD, take, drop, length-drop}
+use lib.ListN.{length, getD, take, drop, length-append, length-take, length-drop}
 use borrow.Author.Tests.{le-leb, lt-leb, eq-eqb, ne-eqb}
 use Rattle.clock.specs.Choice.{if_then_else_}
 use Rattle.octets.specs.Runs.{over, placed, placedLength}
-use Rattle.octets.specs.Items.{option, optionBytes, wholeItems}
-use Rattle.octets.proofs.Runs.{placed-whole}
-use Rattle.octets.proofs.Items.{bytes-of}
-use Rattle.wire.specs.Options.{DhcpOption}
+use Rattle.octets.specs.Items.{option, optionBytes, wholeFrom, wholeItems}
+use Rattle.octets.proofs.Runs.{placed-whole, over-front, over-length}
+use Rattle.octets.proofs.Items.{bytes-of, items-append, items-option}
+use Rattle.wire.specs.Options.{DhcpOption, optionsOf}
 use Rattle.wire.specs.Stored.{pushed, allPushed, placeFrom, withOption, used, wholeStore, emptyStore, storeOf}
 use Rattle.wire.specs.declared.store.Store.{Store}
 use Rattle.wire.specs.declared.store.Got.the-variants.{Absent, At, Refused}
@@ -112,3 +112,50 @@ whole-over store h = simp (lt-leb _ _ h)
 pub whole-within : (store : Store) → store .len ≤ 256 → wholeStore store ≡ wholeItems (used store)
 unfolding wholeStore if_then_else_
 whole-within store h = simp (le-leb _ _ h)
+
+-- a store as the calls leave it: 256 octets, whole items in use
+pub record Sound (store : Store) : Type 0 where
+  pub size : length (store .bytes) ≡ 256
+  pub whole : wholeStore store ≡ true
+
+sound-within : (store : Store) → wholeStore store ≡ true → store .len ≤ 256
+sound-within store e = elim (decLe (store .len) 256) [
+  | yes h ↦ h
+  | no h ↦ let e' = whole-over store (omega arith) in let z : _≡_ {A = ℕ} 0 1 = cc in omega arith
+]
+
+used-with : (store : Store) (kind : ℕ) (body : List ℕ) → store .len ≤ length (store .bytes) → used (withOption store kind body) ≡ used store ++ option kind body
+unfolding over
+used-with store kind body h =
+    let n : store .len ≡ length (used store) = sym (length-take-le (store .len) (store .bytes) h) in
+    ap (λ (i : ℕ). take (i + length (option kind body)) (withOption store kind body .bytes)) n ∙ take-append-add (used store) (over (option kind body) (drop (store .len) (store .bytes))) (length (option kind body))
+    ∙ ap (λ (l : List ℕ). used store ++ l) (over-front (option kind body) (drop (store .len) (store .bytes)))
+
+with-sound : (store : Store) (kind : ℕ) (body : List ℕ) → Sound store → store .len + (2 + length body) ≤ 256 → Sound (withOption store kind body)
+with-sound store kind body s h = record {
+  size = simp (length-append, length-take, over-length (option kind body) (drop (store .len) (store .bytes)) room, length-drop) (omega (arith, s .size));
+  whole = whole-within (withOption store kind body) (omega arith) ∙ ap wholeItems (used-with store kind body (omega (arith, s .size)))
+      ∙ items-append (used store) (option kind body) (sym (whole-within store (omega arith)) ∙ s .whole) ∙ items-option kind body;
+}
+  where
+    room : length (option kind body) ≤ length (drop (store .len) (store .bytes))
+    room = simp length-drop (omega (arith, s .size))
+
+-- a push keeps a store sound, and so what a reply leaves in it is whole
+pub push-sound : (store : Store) (kind : ℕ) (body : List ℕ) → Sound store → Sound (pushed store kind body)
+push-sound store kind body s = elim (decLe (store .len + (2 + length body)) 256) [
+  | yes h ↦ subst Sound (push-kept store kind body h) (with-sound store kind body s h)
+  | no h ↦ subst Sound (push-passed store kind body (omega arith)) s
+]
+
+all-sound : (store : Store) (os : List DhcpOption) → Sound store → Sound (allPushed store os)
+unfolding allPushed
+all-sound store [] s = s
+all-sound store (o ∷ os) s = all-sound (pushed store (o .code) (o .body)) os (push-sound store (o .code) (o .body) s)
+
+empty-sound : Sound emptyStore
+unfolding wholeStore if_then_else_ wholeFrom
+empty-sound = record { size = refl; whole = refl }
+
+pub store-sound : (reply : List ℕ) → Sound (storeOf reply)
+store-sound reply = all-sound emptyStore (optionsOf reply) empty-sound
