@@ -1,10 +1,10 @@
 -- Laws of lists of addresses: the first three of a list that grows, and groups of four octets. Assumes nothing.
-use Prim.Native.Nat.{ℕ, zero, suc, _+_, _-_, _≤_, _<_}
+use Prim.Native.Nat.{ℕ, _+_, _≤_, _<_}
 use mathlib.Core.Bool.{Bool, true, false}
 use mathlib.Core.Path.{_≡_, refl, sym, ap, _∙_}
 use mathlib.Core.List.{List, [], _∷_, _++_, append-nil, append-assoc}
 use native.Mathlib.Omega.{arith}
-use lib.ListN.{length, getD, take, drop, set}
+use lib.ListN.{length, getD, drop, set}
 use Rattle.clock.specs.Choice.{if_then_else_}
 use Rattle.octets.specs.Words.{word32}
 use Rattle.octets.specs.Addresses.{unicast}

@@ -1,6 +1,6 @@
 -- Laws of the store. Assumes nothing.
-use Prim.Native.Nat.{ℕ, zero, suc, _+_, _-_, _≤_, _<_, min}
-use mathlib.Core.Bool.{Bool, true, false}
+use Prim.Native.Nat.{ℕ, zero, suc, _+_, _≤_, _<_, min}
+use mathlib.Core.Bool.{true, false}
 use mathlib.Core.Path.{_≡_, refl, sym, ap, subst, _∙_}
 use mathlib.Core.List.{List, [], _∷_, _++_}
 use native.Mathlib.Omega.{arith}
@@ -17,7 +17,7 @@ use Rattle.octets.proofs.Items.{bytes-of, items-append, items-option}
 use Rattle.wire.specs.Options.{DhcpOption, optionsOf}
 use Rattle.wire.specs.Stored.{pushed, allPushed, placeFrom, withOption, used, wholeStore, emptyStore, storeOf}
 use Rattle.wire.specs.declared.store.Store.{Store}
-use Rattle.wire.specs.declared.store.Got.the-variants.{Absent, At, Refused}
+use Rattle.wire.specs.declared.store.Got.the-variants.{Absent, At}
 
 -- an option that does not fit, and one that does
 pub push-passed : (store : Store) (kind : ℕ) (body : List ℕ) → 256 < store .len + (2 + length body) → store ≡ pushed store kind body

@@ -3,15 +3,16 @@ use Prim.Native.Nat.{ℕ, zero, suc, _+_, _-_, _≤_, _<_}
 use mathlib.Core.Bool.{Bool, true, false}
 use mathlib.Core.Path.{_≡_, refl, sym, ap, subst, _∙_}
 use mathlib.Core.List.{List, [], _∷_, _++_}
-use mathlib.Core.Option.{Option, none, some}
+use mathlib.Core.Option.{none, some}
 use native.Mathlib.Omega.{arith}
 use native.Mathlib.Nat.{add-zero}
 use native.Mathlib.Numerals.{add-one}
-use lib.ListN.{length, getD, take, drop, length-take, length-drop, drop-of-length-le}
-use lib.Seq.{drop-cons, getD-drop, drop-drop}
+use lib.ListN.{length, getD, take, drop, length-append, length-take, length-drop, drop-of-length-le}
+use lib.Seq.{drop-cons, getD-drop, drop-drop, take-append-seam, drop-append-seam}
 use lib.Dec.{eqb, ltb}
-use borrow.Author.Tests.{ltb-true, eq-eqb, ne-eqb}
+use borrow.Author.Tests.{ltb-true, lt-ltb, eq-eqb, ne-eqb}
 use Rattle.clock.specs.Choice.{if_then_else_}
+use Rattle.octets.specs.Items.{option}
 use Rattle.wire.specs.Options.{DhcpOption, headItem, optionsFrom, firstWith, optionData, dataAt, Finds}
 use Rattle.wire.specs.Readings.{lengthOf}
 use Rattle.wire.specs.declared.reply.Length.the-variants.{Octets}
@@ -125,3 +126,23 @@ found-size {reply} start size f e =
 pub found-length : {reply : List ℕ} {code : ℕ} {r : Found} (start size : ℕ) → Finds reply code r → r ≡ At start size
     → lengthOf (optionData code reply) ≡ Octets size
 found-length start size f e = ap lengthOf (sym (found start size f e .0)) ∙ ap Octets (found-size start size f e)
+
+-- ---- a field that begins with an option as a writer leaves it
+head-option : (k : ℕ) (d r : List ℕ) → (k ≡ 0 → ⊥) → (k ≡ 255 → ⊥) → headItem (option k d ++ r) ≡ Whole k (length d)
+unfolding headItem if_then_else_
+head-option k d r h g =
+    let e : length d < length (length d ∷ (d ++ r)) = omega (arith, length-append d r) in
+    simp (ne-eqb k 0 h, ne-eqb k 255 g, lt-ltb (length d) (length (length d ∷ (d ++ r))) e)
+
+pub walk-option : (k : ℕ) (d r : List ℕ) → (k ≡ 0 → ⊥) → (k ≡ 255 → ⊥) → optionsFrom 0 (option k d ++ r) ≡ record { code = k; body = d } ∷ optionsFrom 0 r
+walk-option k d r h g =
+    let s = option k d ++ r in
+    let e : 0 + 2 + length d ≡ suc (suc (length d)) = omega arith in
+    let body : take (length d) (drop (0 + 2) s) ≡ d = take-append-seam d r in
+    let rest : drop (0 + 2 + length d) s ≡ r = ap (λ (n : ℕ). drop n s) e ∙ drop-append-seam d r in
+    step-list s 0 s refl ∙ ap (after s 0) (head-option k d r h g) ∙ (λ i. record { code = k; body = body i } ∷ optionsFrom 0 (rest i))
+
+-- the end mark
+pub walk-end : optionsFrom 0 (255 ∷ []) ≡ []
+unfolding optionsFrom headItem if_then_else_
+walk-end = refl

@@ -1,9 +1,19 @@
 -- The cases that document 01 marks ★, as one table with one theorem. Each layer adds its own.
 use Prim.Native.Nat.{ℕ}
 use mathlib.Core.Path.{_≡_, refl}
+use mathlib.Core.Bool.{true}
 use mathlib.Core.List.{List, [], _∷_, map}
+use lib.ListN.{length, getD}
 use Rattle.clock.specs.Moments.{plus}
+use Rattle.clock.specs.Choice.{if_then_else_}
 use Rattle.clock.specs.Generator.{generator, drawn32, nextState, outputOf}
+use Rattle.octets.specs.Words.{word16, word32}
+use Rattle.octets.specs.Addresses.{prefixLen, lengthUpTo}
+use Rattle.octets.specs.declared.number.MaybeNumber.{MaybeNumber}
+use Rattle.octets.specs.declared.number.MaybeNumber.the-variants.{None, Some}
+use Rattle.message.specs.Messages.{message, optionIf, addressOption, sizeOption, nameOption}
+use Rattle.message.specs.Datagrams.{udp}
+use Rattle.message.specs.declared.message.Message.{Message}
 
 pub record Case : Type 0 where
   -- what the definitions give
@@ -14,14 +24,50 @@ pub record Case : Type 0 where
 abbrev case : List ℕ → List ℕ → Case
 case given stated = record { given = given; stated = stated }
 
+-- A number that may be missing, as a list.
+abbrev numbers : MaybeNumber → List ℕ
+numbers None = []
+numbers (Some n) = n ∷ []
+
+-- A message of a post with hardware address 02:00:00:00:00:01 and MTU 1,500, without a name, with the default request list
+-- and no extra options.
+abbrev fields : ℕ → MaybeNumber → MaybeNumber → Message
+fields kind requested server = record {
+  kind = kind;
+  id = 1;
+  client = 0;
+  hardware = 2 ∷ 0 ∷ 0 ∷ 0 ∷ 0 ∷ 1 ∷ [];
+  requested = requested;
+  server = server;
+  size = Some 1432;
+  asks = true;
+}
+
+abbrev discover : List ℕ
+discover = message (fields 1 None None) [] (1 ∷ 3 ∷ 6 ∷ []) []
+
+abbrev requesting : List ℕ
+requesting = message (fields 3 (Some (word32 10 0 0 7)) (Some (word32 10 0 0 1))) [] (1 ∷ 3 ∷ 6 ∷ []) []
+
+-- The length field of a message's datagram.
+abbrev udpLength : List ℕ → ℕ
+udpLength body = word16 (getD (udp (0 ∷ 0 ∷ []) body) 4 0) (getD (udp (0 ∷ 0 ∷ []) body) 5 0)
+
 unfoldable pub cases : List Case
 cases =
     -- "A moment plus a wait wraps at 2^32: 4,294,967,295 plus 10,000 is 9,999."
     case (plus 4294967295 10000 ∷ []) (9999 ∷ [])
     -- "State 0 draws 3; the state becomes 0x7590ef39."
     ∷ case (drawn32 (generator 0) .value ∷ drawn32 (generator 0) .rand .state ∷ []) (3 ∷ 0x7590ef39 ∷ [])
+    -- "`prefix_len`: 0.0.0.0 gives 0, 255.255.255.255 gives 32, 255.0.255.0 none." None is written as no number.
+    ∷ case (numbers (prefixLen (word32 0 0 0 0))) (0 ∷ [])
+    ∷ case (numbers (prefixLen (word32 255 255 255 255))) (32 ∷ [])
+    ∷ case (numbers (prefixLen (word32 255 0 255 0))) []
+    -- "Discover without name: 262 bytes, UDP length 270." "Requesting: 274." The UDP length is octets 4 and 5.
+    ∷ case (length discover ∷ udpLength discover ∷ []) (262 ∷ 270 ∷ [])
+    ∷ case (length requesting ∷ []) (274 ∷ [])
     ∷ []
 
 pub all-hold : map (λ c. c .given) cases ≡ map (λ c. c .stated) cases
-unfolding cases drawn32 nextState outputOf
+unfolding cases drawn32 nextState outputOf lengthUpTo if_then_else_ message optionIf addressOption sizeOption nameOption
 all-hold = refl

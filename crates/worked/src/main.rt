@@ -1,9 +1,12 @@
 // Document 01's worked examples that are not marked ★, then what the Rust answered, run and printed. The figures in the
 // file stdout are the paper's, the Rust's (oracle/clock), or worked out in a comment here.
 use libc::STDOUT_FILENO;
+use octets::MaybeNumber;
 
 mod grid;
+mod reading;
 mod time;
+mod writing;
 
 fn main() {
     io::write_all(STDOUT_FILENO, b"src/time.rs\n");
@@ -13,6 +16,10 @@ fn main() {
         b"src/time.rs and src/rand.rs as the Rust answers\n",
     );
     grid::all();
+    io::write_all(STDOUT_FILENO, b"addresses, replies, the store\n");
+    reading::examples();
+    io::write_all(STDOUT_FILENO, b"messages\n");
+    writing::examples();
 }
 
 // A line: what was asked, and the number that came.
@@ -31,4 +38,39 @@ fn test(asked: &[u8], holds: bool) {
     } else {
         io::write_all(STDOUT_FILENO, b": no\n");
     }
+}
+
+// A line: what was asked, and that there is none.
+fn none(asked: &[u8]) {
+    io::write_all(STDOUT_FILENO, asked);
+    io::write_all(STDOUT_FILENO, b": none\n");
+}
+
+// A line: what was asked, and the number or that there is none.
+fn number(asked: &[u8], number: MaybeNumber) {
+    match number {
+        MaybeNumber::None => none(asked),
+        MaybeNumber::Some(n) => line(asked, n as u64),
+    }
+}
+
+// A line: what was asked, and by which number it was refused.
+fn refused(asked: &[u8], number: u32) {
+    io::write_all(STDOUT_FILENO, asked);
+    io::write_all(STDOUT_FILENO, b": refused by ");
+    io::print_decimal(STDOUT_FILENO, number as u64);
+    io::write_all(STDOUT_FILENO, b"\n");
+}
+
+// A line: what was asked, and the octet that came.
+fn octet(asked: &[u8], octet: u8) {
+    line(asked, octet as u64);
+}
+
+// The first n octets, all of them where there are no more.
+fn first(s: &[u8], n: usize) -> &[u8] {
+    if n < s.len() {
+        return &s[..n];
+    }
+    s
 }

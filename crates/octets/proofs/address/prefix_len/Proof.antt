@@ -1,13 +1,11 @@
 use borrow.Author.Needs.{needs}
 use native.Mathlib.Omega.{arith}
 use mathlib.Core.Path.{_≡_, refl, sym, ap, _∙_}
-use Prim.Native.Nat.{ℕ, _+_, _-_, _*_, _^_, _≤_}
+use Prim.Native.Nat.{ℕ, _-_, _*_, _^_, _≤_}
 use Rattle.octets.specs.Addresses.{lengthUpTo, prefixLen}
 use Rattle.octets.proofs.Masks.{small, double, hit, miss, last-hit, last-miss}
 use Rattle.octets.proofs.address.prefix_len.Statement.{statement}
 use Rattle.octets.proofs.address.prefix_len.Tie as tie
-use Rattle.octets.proofs.address.prefix_len.Reads as reads
-use Rattle.octets.proofs.address.prefix_len.Lts as lts
 
 abbrev Inv-loop : tie.InvT-loop
 Inv-loop mask m n₀ p₀ n p = (n ≤ 32) × ((p ≡ 2 ^ (32 - n)) × (prefixLen mask ≡ lengthUpTo n mask))
@@ -15,31 +13,24 @@ Inv-loop mask m n₀ p₀ n p = (n ≤ 32) × ((p ≡ 2 ^ (32 - n)) × (prefixLe
 abbrev μ-loop : tie.MeasureT-loop
 μ-loop mask m n₀ p₀ n p = n
 
--- src/lib.rt:18:5
 loop-holds : tie.Need-loop-holds Inv-loop μ-loop
 loop-holds c = (search needs, (refl, refl))
 
--- src/lib.rt:19:12
 add-if1 : tie.Need-add-if1 Inv-loop μ-loop
 add-if1 c = omega (arith, small (c .before .loop .n))
 
--- src/lib.rt:20:13
 returns : tie.Need-returns Inv-loop μ-loop
 returns c = sym (c .before .before .loop .inv .1 .1 ∙ hit (c .before .before .loop .n) (c .before .before .before .args .mask) (omega arith) (omega arith))
 
--- src/lib.rt:22:13
 sub-n : tie.Need-sub-n Inv-loop μ-loop
 sub-n c = search needs
 
--- src/lib.rt:23:13
 mul-p : tie.Need-mul-p Inv-loop μ-loop
 mul-p c = omega (arith, small (c .before .before .loop .n))
 
--- src/lib.rt:18:5
 loop-less : tie.Need-loop-less Inv-loop μ-loop
 loop-less c = omega arith
 
--- src/lib.rt:18:5
 loop-again : tie.Need-loop-again Inv-loop μ-loop
 loop-again c = (
   omega arith,
@@ -49,11 +40,9 @@ loop-again c = (
   ),
 )
 
--- src/lib.rt:26:9
 returns-2 : tie.Need-returns-2 Inv-loop μ-loop
 returns-2 c = let z : c .before .before .loop .n ≡ 0 = omega arith in sym (c .before .before .loop .inv .1 .1 ∙ rw z (last-hit (c .before .before .before .args .mask) (c .if2 .taken)))
 
--- src/lib.rt:12:1
 returns-3 : tie.Need-returns-3 Inv-loop μ-loop
 returns-3 c = let z : c .before .before .loop .n ≡ 0 = omega arith in sym (c .before .before .loop .inv .1 .1 ∙ rw z (last-miss (c .before .before .before .args .mask) (c .if2 .left)))
 

@@ -1,28 +1,21 @@
 use mathlib.Core.Path.{refl}
 use Rattle.clock.proofs.Choices.{if-true, if-false, tests}
 use Rattle.octets.specs.Addresses.{unicast}
-use borrow.Author.Needs.{needs}
 use Rattle.octets.proofs.address.x_is_unicast.Statement.{statement}
 use Rattle.octets.proofs.address.x_is_unicast.Tie as tie
-use Rattle.octets.proofs.address.x_is_unicast.Reads as reads
-use Rattle.octets.proofs.address.x_is_unicast.Lts as lts
 
--- src/address.rt:16:9
 returns : tie.Need-returns
 unfolding unicast
 returns c = if-true _ (search tests) refl
 
--- src/address.rt:19:9
 returns-2 : tie.Need-returns-2
 unfolding unicast
 returns-2 c = if-false _ (search tests) (if-true _ (search tests) refl)
 
--- src/address.rt:22:9
 returns-3 : tie.Need-returns-3
 unfolding unicast
 returns-3 c = if-false _ (search tests) (if-false _ (search tests) (if-true _ (search tests) refl))
 
--- src/address.rt:12:1
 returns-4 : tie.Need-returns-4
 unfolding unicast
 returns-4 c = if-false _ (search tests) (if-false _ (search tests) (if-false _ (search tests) refl))

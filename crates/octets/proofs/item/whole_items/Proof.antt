@@ -1,5 +1,5 @@
 use Prim.Native.Nat.{_+_}
-use mathlib.Core.Path.{_≡_, refl, sym, _∙_}
+use mathlib.Core.Path.{_≡_, sym, _∙_}
 use native.Mathlib.Omega.{arith}
 use lib.ListN.{length, getD}
 use Rattle.octets.specs.Items.{wholeItems}
@@ -8,8 +8,6 @@ use Rattle.octets.proofs.Items.{items-end, items-one, items-cut, items-
 use borrow.Author.Needs.{needs}
 use Rattle.octets.proofs.item.whole_items.Statement.{statement}
 use Rattle.octets.proofs.item.whole_items.Tie as tie
-use Rattle.octets.proofs.item.whole_items.Reads as reads
-use Rattle.octets.proofs.item.whole_items.Lts as lts
 
 abbrev Inv-loop : tie.InvT-loop
 Inv-loop s t₀ t = wholeItems s ≡ wholeItems t
@@ -17,57 +15,44 @@ Inv-loop s t₀ t = wholeItems s ≡ wholeItems t
 abbrev μ-loop : tie.MeasureT-loop
 μ-loop s t₀ t = length t
 
--- src/item.rt:10:5
 loop-holds : tie.Need-loop-holds Inv-loop μ-loop
 loop-holds c = search needs
 
--- src/item.rt:12:13
 returns : tie.Need-returns Inv-loop μ-loop
 returns c = sym (c .before .before .loop .inv ∙ items-one (c .before .before .loop .t .now) (c .if1 .taken))
 
--- src/item.rt:14:17
 shared-slice-read-n : tie.Need-shared-slice-read-n Inv-loop μ-loop
 shared-slice-read-n c = search needs
 
--- src/item.rt:14:17
 cast-n : tie.Need-cast-n Inv-loop μ-loop
 cast-n c = omega (arith, c .shared-slice-known .given 1)
 
--- src/item.rt:15:12
 sub-if2 : tie.Need-sub-if2 Inv-loop μ-loop
 sub-if2 c = search needs
 
--- src/item.rt:16:13
 returns-2 : tie.Need-returns-2 Inv-loop μ-loop
 returns-2 c = sym (c .before .before .before .before .loop .inv ∙ items-cut (c .before .before .before .before .loop .t .now) (omega arith) (c .if2 .taken))
 
--- src/item.rt:18:17
 add-m : tie.Need-add-m Inv-loop μ-loop
 add-m c = omega (arith, c .before .shared-slice-known .given 1)
 
--- src/item.rt:19:13
 sub-t : tie.Need-sub-t Inv-loop μ-loop
 sub-t c = search needs
 
--- src/item.rt:19:13
 part-t-start : tie.Need-part-t-start Inv-loop μ-loop
 part-t-start c = search needs
 
--- src/item.rt:19:13
 part-t-end : tie.Need-part-t-end Inv-loop μ-loop
 part-t-end c = search needs
 
--- src/item.rt:10:5
 loop-less : tie.Need-loop-less Inv-loop μ-loop
 loop-less c = search needs
 
--- src/item.rt:10:5
 loop-again : tie.Need-loop-again Inv-loop μ-loop
 loop-again c =
     let t = c .before .before .before .before .before .loop .t .now in
     c .before .before .before .before .before .loop .inv ∙ items-more t (omega arith) (c .before .if2 .left) ∙ (λ k. wholeItems (sym (part-tail (getD t 1 0 + 2) t) k))
 
--- src/item.rt:6:1
 returns-3 : tie.Need-returns-3 Inv-loop μ-loop
 returns-3 c = sym (c .before .loop .inv ∙ items-end (c .before .loop .t .now) (c .loop-test .left))
 

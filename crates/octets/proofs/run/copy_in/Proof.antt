@@ -1,7 +1,6 @@
-use mathlib.Core.Path.{_≡_, refl, ap, _∙_}
-use mathlib.Core.List.{List, _++_}
-use Prim.Native.Nat.{ℕ, _+_, _≤_, _-_}
-use native.Mathlib.Nat.{le-antisymm}
+use mathlib.Core.Path.{_≡_, refl, _∙_}
+use mathlib.Core.List.{_++_}
+use Prim.Native.Nat.{_+_, _≤_, _-_}
 use native.Mathlib.Numerals.{add-one}
 use native.Mathlib.Omega.{arith}
 use borrow.Author.Needs.{needs}
@@ -11,8 +10,6 @@ use Rattle.octets.specs.Runs.{over}
 use Rattle.octets.proofs.Runs.{store}
 use Rattle.octets.proofs.run.copy_in.Statement.{statement}
 use Rattle.octets.proofs.run.copy_in.Tie as tie
-use Rattle.octets.proofs.run.copy_in.Reads as reads
-use Rattle.octets.proofs.run.copy_in.Lts as lts
 
 abbrev Inv-loop : tie.InvT-loop
 Inv-loop buf₀ body i₀ buf i = (i ≤ length body) × ((buf ≡ take i body ++ drop i buf₀) × (length buf ≡ length buf₀))

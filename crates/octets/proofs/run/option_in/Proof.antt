@@ -6,43 +6,31 @@ use mathlib.Core.Path.{refl, _∙_}
 use borrow.Author.Needs.{needs}
 use Rattle.octets.proofs.run.option_in.Statement.{statement}
 use Rattle.octets.proofs.run.option_in.Tie as tie
-use Rattle.octets.proofs.run.option_in.Reads as reads
-use Rattle.octets.proofs.run.option_in.Lts as lts
-use Rattle.octets.proofs.run.copy_in.Reads as copy-in-reads
 
--- src/run.rt:56:5
 slice-write-buf : tie.Need-slice-write-buf
 slice-write-buf c = search needs
 
--- src/run.rt:57:14
 cast-buf : tie.Need-cast-buf
 cast-buf c = search needs
 
--- src/run.rt:57:5
 slice-write-buf-2 : tie.Need-slice-write-buf-2
 slice-write-buf-2 c = simp length-set (omega arith)
 
--- src/run.rt:58:13
 sub-copy-in : tie.Need-sub-copy-in
 sub-copy-in c = simp length-set (omega arith)
 
--- src/run.rt:58:13
 part-copy-in-start : tie.Need-part-copy-in-start
 part-copy-in-start c = simp length-set (omega arith)
 
--- src/run.rt:58:13
 part-copy-in-end : tie.Need-part-copy-in-end
 part-copy-in-end c = search needs
 
--- src/run.rt:58:5
 copy-in-requires : tie.Need-copy-in-requires
 copy-in-requires c κs = simp (length-take, length-drop, length-set) (omega arith)
 
--- src/run.rt:52:1
 same-length : tie.Need-same-length
 same-length c = c .before .buf .given .1 ∙ simp length-set
 
--- src/run.rt:52:1
 returns : tie.Need-returns
 returns c =
     let buf = c .before .before .before .before .before .before .args .buf .now in

@@ -1,29 +1,21 @@
 use Rattle.octets.proofs.Runs.{placed-whole, placed-not}
 use mathlib.Core.Path.{sym, _∙_}
-use lib.ListN.{length}
 use native.Mathlib.Omega.{arith}
 use borrow.Author.Needs.{needs}
 use Rattle.octets.proofs.run.put_bytes.Statement.{statement}
 use Rattle.octets.proofs.run.put_bytes.Tie as tie
-use Rattle.octets.proofs.run.put_bytes.Reads as reads
-use Rattle.octets.proofs.run.put_bytes.Lts as lts
-use Rattle.octets.proofs.run.copy_in.Reads as copy-in-reads
 
--- src/run.rt:45:9
 returns : tie.Need-returns
 returns c =
     let e = placed-not (c .before .before .before .args .body .now) (c .before .before .before .args .buf .now) (c .if1 .taken) in
     (sym (e .0), sym (e .1))
 
--- src/run.rt:47:5
 copy-in-requires : tie.Need-copy-in-requires
 copy-in-requires c κs = search needs
 
--- src/run.rt:40:1
 same-length : tie.Need-same-length
 same-length c = search needs
 
--- src/run.rt:40:1
 returns-2 : tie.Need-returns-2
 returns-2 c =
     let e = placed-whole (c .before .before .before .before .before .before .before .args .body .now) (c .before .before .before .before .before .before .before .args .buf .now) (omega arith) in

@@ -2,42 +2,31 @@ use Rattle.octets.proofs.Items.{bytes-of, bytes-long}
 use Rattle.octets.proofs.Runs.{placed-whole, placed-not, placed-none}
 use Rattle.octets.specs.Items.{option}
 use mathlib.Core.Path.{sym, _∙_}
-use lib.ListN.{length}
 use native.Mathlib.Omega.{arith}
 use borrow.Author.Needs.{needs}
 use Rattle.octets.proofs.run.put_option.Statement.{statement}
 use Rattle.octets.proofs.run.put_option.Tie as tie
-use Rattle.octets.proofs.run.put_option.Reads as reads
-use Rattle.octets.proofs.run.put_option.Lts as lts
-use Rattle.octets.proofs.run.option_in.Reads as option-in-reads
 
--- src/run.rt:68:9
 returns : tie.Need-returns
 returns c = rw (bytes-long (c .before .before .before .args .kind) (c .before .before .before .args .body .now) (c .if1 .taken)) (sym (placed-none (c .before .before .before .args .buf .now) .0), sym (placed-none (c .before .before .before .args .buf .now) .1))
 
--- src/run.rt:70:20
 add-if2 : tie.Need-add-if2
 add-if2 c = search needs
 
--- src/run.rt:71:9
 returns-2 : tie.Need-returns-2
 returns-2 c =
     let e = placed-not (option (c .before .before .before .before .args .kind) (c .before .before .before .before .args .body .now)) (c .before .before .before .before .args .buf .now) (omega arith) in
     rw (bytes-of (c .before .before .before .before .args .kind) (c .before .before .before .before .args .body .now) (omega arith)) (sym (e .0), sym (e .1))
 
--- src/run.rt:73:5
 option-in-requires : tie.Need-option-in-requires
 option-in-requires c κs = search needs
 
--- src/run.rt:74:5
 add-result : tie.Need-add-result
 add-result c = search needs
 
--- src/run.rt:63:1
 same-length : tie.Need-same-length
 same-length c = search needs
 
--- src/run.rt:63:1
 returns-3 : tie.Need-returns-3
 returns-3 c =
     let e = placed-whole (option (c .before .before .before .before .before .before .before .before .args .kind) (c .before .before .before .before .before .before .before .before .args .body .now)) (c .before .before .before .before .before .before .before .before .args .buf .now) (omega arith) in

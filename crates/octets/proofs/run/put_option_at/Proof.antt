@@ -4,37 +4,27 @@ use mathlib.Core.Path.{sym}
 use borrow.Author.Needs.{needs}
 use Rattle.octets.proofs.run.put_option_at.Statement.{statement}
 use Rattle.octets.proofs.run.put_option_at.Tie as tie
-use Rattle.octets.proofs.run.put_option_at.Reads as reads
-use Rattle.octets.proofs.run.put_option_at.Lts as lts
-use Rattle.octets.proofs.run.put_option.Reads as put-option-reads
 
--- src/run.rt:94:9
 returns : tie.Need-returns
 returns c =
     let e = placed-past (optionBytes (c .before .before .before .args .kind) (c .before .before .before .args .body .now)) (c .before .before .before .args .buf .now) (c .before .before .before .args .at) (c .if1 .taken) in
     (sym (e .0), sym (e .1))
 
--- src/run.rt:96:16
 sub-put-option : tie.Need-sub-put-option
 sub-put-option c = search needs
 
--- src/run.rt:96:16
 part-put-option-start : tie.Need-part-put-option-start
 part-put-option-start c = search needs
 
--- src/run.rt:96:16
 part-put-option-end : tie.Need-part-put-option-end
 part-put-option-end c = search needs
 
--- src/run.rt:96:5
 put-option-requires : tie.Need-put-option-requires
 put-option-requires c κs = search needs
 
--- src/run.rt:90:1
 same-length : tie.Need-same-length
 same-length c = search needs
 
--- src/run.rt:90:1
 returns-2 : tie.Need-returns-2
 returns-2 c =
     let put = c .before .before .put-option in

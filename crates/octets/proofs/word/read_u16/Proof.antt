@@ -5,45 +5,34 @@ use borrow.Author.Tests.{le-leb, lt-leb}
 use mathlib.Core.Path.{refl, ap}
 use Rattle.clock.proofs.Choices.{if-true, if-false}
 use Rattle.octets.specs.Words.{word16At}
-use Rattle.octets.specs.declared.number.MaybeNumber.the-variants.{None, Some}
+use Rattle.octets.specs.declared.number.MaybeNumber.the-variants.{Some}
 use borrow.Author.Needs.{needs}
 use Rattle.octets.proofs.word.read_u16.Statement.{statement}
 use Rattle.octets.proofs.word.read_u16.Tie as tie
-use Rattle.octets.proofs.word.read_u16.Reads as reads
-use Rattle.octets.proofs.word.read_u16.Lts as lts
-use Rattle.octets.proofs.word.join2.Reads as join2-reads
 
--- src/word.rt:45:9
 returns : tie.Need-returns
 unfolding word16At
 returns c = let h : length (c .before .before .args .s .now) < c .before .before .args .at + 2 = omega arith in if-false _ (lt-leb _ _ h) refl
 
--- src/word.rt:47:8
 sub-if2 : tie.Need-sub-if2
 sub-if2 c = search needs
 
--- src/word.rt:48:9
 returns-2 : tie.Need-returns-2
 unfolding word16At
 returns-2 c = let h : length (c .before .before .before .args .s .now) < c .before .before .before .args .at + 2 = omega arith in if-false _ (lt-leb _ _ h) refl
 
--- src/word.rt:50:29
 shared-slice-read-join2 : tie.Need-shared-slice-read-join2
 shared-slice-read-join2 c = search needs
 
--- src/word.rt:50:38
 add-join2 : tie.Need-add-join2
 add-join2 c = search needs
 
--- src/word.rt:50:36
 shared-slice-read-join2-2 : tie.Need-shared-slice-read-join2-2
 shared-slice-read-join2-2 c = search needs
 
--- src/word.rt:50:23
 join2-requires : tie.Need-join2-requires
 join2-requires c κs = search needs
 
--- src/word.rt:41:1
 returns-3 : tie.Need-returns-3
 unfolding word16At
 returns-3 c = let h : c .before .before .before .before .before .before .args .at + 2 ≤ length (c .before .before .before .before .before .before .args .s .now) = omega arith in if-true _ (le-leb _ _ h) (ap Some (c .join2 .ensures))

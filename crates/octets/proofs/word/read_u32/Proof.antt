@@ -5,61 +5,46 @@ use borrow.Author.Tests.{le-leb, lt-leb}
 use mathlib.Core.Path.{refl, ap}
 use Rattle.clock.proofs.Choices.{if-true, if-false}
 use Rattle.octets.specs.Words.{word32At}
-use Rattle.octets.specs.declared.number.MaybeNumber.the-variants.{None, Some}
+use Rattle.octets.specs.declared.number.MaybeNumber.the-variants.{Some}
 use borrow.Author.Needs.{needs}
 use Rattle.octets.proofs.word.read_u32.Statement.{statement}
 use Rattle.octets.proofs.word.read_u32.Tie as tie
-use Rattle.octets.proofs.word.read_u32.Reads as reads
-use Rattle.octets.proofs.word.read_u32.Lts as lts
-use Rattle.octets.proofs.word.join4.Reads as join4-reads
 
--- src/word.rt:58:9
 returns : tie.Need-returns
 unfolding word32At
 returns c = let h : length (c .before .before .args .s .now) < c .before .before .args .at + 4 = omega arith in if-false _ (lt-leb _ _ h) refl
 
--- src/word.rt:60:8
 sub-if2 : tie.Need-sub-if2
 sub-if2 c = search needs
 
--- src/word.rt:61:9
 returns-2 : tie.Need-returns-2
 unfolding word32At
 returns-2 c = let h : length (c .before .before .before .args .s .now) < c .before .before .before .args .at + 4 = omega arith in if-false _ (lt-leb _ _ h) refl
 
--- src/word.rt:63:29
 shared-slice-read-join4 : tie.Need-shared-slice-read-join4
 shared-slice-read-join4 c = search needs
 
--- src/word.rt:63:38
 add-join4 : tie.Need-add-join4
 add-join4 c = search needs
 
--- src/word.rt:63:36
 shared-slice-read-join4-2 : tie.Need-shared-slice-read-join4-2
 shared-slice-read-join4-2 c = search needs
 
--- src/word.rt:63:49
 add-join4-2 : tie.Need-add-join4-2
 add-join4-2 c = search needs
 
--- src/word.rt:63:47
 shared-slice-read-join4-3 : tie.Need-shared-slice-read-join4-3
 shared-slice-read-join4-3 c = search needs
 
--- src/word.rt:63:60
 add-join4-3 : tie.Need-add-join4-3
 add-join4-3 c = search needs
 
--- src/word.rt:63:58
 shared-slice-read-join4-4 : tie.Need-shared-slice-read-join4-4
 shared-slice-read-join4-4 c = search needs
 
--- src/word.rt:63:23
 join4-requires : tie.Need-join4-requires
 join4-requires c κs = search needs
 
--- src/word.rt:54:1
 returns-3 : tie.Need-returns-3
 unfolding word32At
 returns-3 c = let h : c .before .before .before .before .before .before .before .before .args .at + 4 ≤ length (c .before .before .before .before .before .before .before .before .args .s .now) = omega arith in if-true _ (le-leb _ _ h) (ap Some (c .join4 .ensures))

@@ -3,14 +3,11 @@ use Rattle.wire.specs.declared.options.Item.the-variants.{Pad, End, Whol
 use Rattle.wire.specs.Options.{firstWith, optionData}
 use lib.ListN.{length, take, drop}
 use mathlib.Core.Path.{_≡_, refl, sym, ap, _∙_}
-use Prim.Native.Nat.{ℕ, _+_, _-_, _≤_, _<_}
+use Prim.Native.Nat.{_+_, _-_, _≤_}
 use native.Mathlib.Omega.{arith}
 use borrow.Author.Needs.{needs}
 use Rattle.wire.proofs.options.find.Statement.{statement}
 use Rattle.wire.proofs.options.find.Tie as tie
-use Rattle.wire.proofs.options.find.Reads as reads
-use Rattle.wire.proofs.options.find.Lts as lts
-use Rattle.wire.proofs.options.read_item.Reads as read-item-reads
 
 abbrev Inv-loop : tie.InvT-loop
 Inv-loop reply code at₀ at = optionData code reply ≡ firstWith code (from reply at)
@@ -22,23 +19,18 @@ abbrev μ-loop : tie.MeasureT-loop
 inside : (c : tie.Else1 Inv-loop μ-loop) → c .before .before .before .before .before .before .loop .at + 2 + c .before .before .kind .given .0 .1 .0 ≤ length (c .before .before .before .before .before .before .before .before .args .reply .now)
 inside c = lies (c .before .before .before .before .before .before .before .before .args .reply .now) (c .before .before .before .before .before .before .loop .at) (c .before .before .before .before .read-item .result) (Whole (c .before .before .kind .given .0 .0) (c .before .before .kind .given .0 .1 .0)) (c .before .before .before .before .read-item .ensures) (c .before .before .kind .given .1) (c .before .before .before .before .before .loop-test .taken)
 
--- src/options.rt:53:5
 loop-holds : tie.Need-loop-holds Inv-loop μ-loop
 loop-holds c = refl
 
--- src/options.rt:54:15
 read-item-requires : tie.Need-read-item-requires Inv-loop μ-loop
 read-item-requires c κs = search needs
 
--- src/options.rt:55:33
 enum-known-kind : tie.Need-enum-known-kind Inv-loop μ-loop
 enum-known-kind c = search needs
 
--- src/options.rt:57:47
 add-t10 : tie.Need-add-t10 Inv-loop μ-loop
 add-t10 c = search needs
 
--- src/options.rt:57:21
 returns : tie.Need-returns Inv-loop μ-loop
 returns c =
     let s = c .before .before .before .before .before .before .before .before .args .reply .now in
@@ -51,19 +43,15 @@ returns c =
       inside = lies s at (c .before .before .before .before .read-item .result) it (c .before .before .before .before .read-item .ensures) (c .before .before .kind .given .1) (c .before .before .before .before .before .loop-test .taken);
     }
 
--- src/options.rt:59:22
 add-at : tie.Need-add-at Inv-loop μ-loop
 add-at c = omega (arith, inside c)
 
--- src/options.rt:59:22
 add-at-2 : tie.Need-add-at-2 Inv-loop μ-loop
 add-at-2 c = omega (arith, inside c)
 
--- src/options.rt:53:5
 loop-less : tie.Need-loop-less Inv-loop μ-loop
 loop-less c = omega (arith, inside c)
 
--- src/options.rt:53:5
 loop-again : tie.Need-loop-again Inv-loop μ-loop
 loop-again c =
     let s = c .before .before .before .before .before .before .before .before .args .reply .now in
@@ -72,27 +60,21 @@ loop-again c =
     let n = c .before .before .kind .given .0 .1 .0 in
     c .before .before .before .before .before .before .loop .inv ∙ ap (firstWith (c .before .before .before .before .before .before .before .before .args .code)) (moved s at (c .before .before .before .before .read-item .result) (Whole k n) (c .before .before .before .before .read-item .ensures) (c .before .before .kind .given .1)) ∙ first-later (c .before .before .before .before .before .before .before .before .args .code) k (take n (drop (at + 2) s)) (from s (at + 2 + n)) (c .if1 .left)
 
--- src/options.rt:62:17
 enum-told : tie.Need-enum-told Inv-loop μ-loop
 enum-told c = search needs
 
--- src/options.rt:62:17
 add-at-3 : tie.Need-add-at-3 Inv-loop μ-loop
 add-at-3 c = search needs
 
--- src/options.rt:53:5
 loop-less-2 : tie.Need-loop-less-2 Inv-loop μ-loop
 loop-less-2 c = search needs
 
--- src/options.rt:53:5
 loop-again-2 : tie.Need-loop-again-2 Inv-loop μ-loop
 loop-again-2 c = c .before .before .before .before .loop .inv ∙ ap (firstWith (c .before .before .before .before .before .before .args .code)) (moved (c .before .before .before .before .before .before .args .reply .now) (c .before .before .before .before .loop .at) (c .before .before .read-item .result) Pad (c .before .before .read-item .ensures) (c .enum-told .given .1))
 
--- src/options.rt:65:17
 enum-told-2 : tie.Need-enum-told-2 Inv-loop μ-loop
 enum-told-2 c = search needs
 
--- src/options.rt:65:17
 returns-2 : tie.Need-returns-2 Inv-loop μ-loop
 returns-2 c =
     record {
@@ -100,7 +82,6 @@ returns-2 c =
       inside = tt;
     }
 
--- src/options.rt:49:1
 returns-3 : tie.Need-returns-3 Inv-loop μ-loop
 returns-3 c =
     record {

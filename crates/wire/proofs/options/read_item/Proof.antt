@@ -7,62 +7,48 @@ use native.Mathlib.Omega.{arith}
 use borrow.Author.Needs.{needs}
 use Rattle.wire.proofs.options.read_item.Statement.{statement}
 use Rattle.wire.proofs.options.read_item.Tie as tie
-use Rattle.wire.proofs.options.read_item.Reads as reads
-use Rattle.wire.proofs.options.read_item.Lts as lts
 
--- src/options.rt:28:9
 returns : tie.Need-returns
 returns c = simp (item-past (c .before .args .s .now) (c .before .args .at) (c .if1 .taken))
 
--- src/options.rt:30:16
 shared-slice-read-code : tie.Need-shared-slice-read-code
 shared-slice-read-code c = search needs
 
--- src/options.rt:32:9
 returns-2 : tie.Need-returns-2
 unfolding if_then_else_
 returns-2 c = simp (item-at (c .before .before .before .args .s .now) (c .before .before .before .args .at) (c .before .before .if1 .left), eq-eqb _ _ (c .if2 .taken))
 
--- src/options.rt:35:9
 returns-3 : tie.Need-returns-3
 unfolding if_then_else_
 returns-3 c = simp (item-at (c .before .before .before .before .args .s .now) (c .before .before .before .before .args .at) (c .before .before .before .if1 .left), ne-eqb _ _ (c .before .if2 .left), eq-eqb _ _ (c .if3 .taken))
 
--- src/options.rt:37:16
 sub-rest : tie.Need-sub-rest
 sub-rest c = search needs
 
--- src/options.rt:37:16
 sub-rest-2 : tie.Need-sub-rest-2
 sub-rest-2 c = search needs
 
--- src/options.rt:39:9
 returns-4 : tie.Need-returns-4
 unfolding if_then_else_
 returns-4 c =
     let h : length (c .before .before .before .before .before .args .s .now) - (c .before .before .before .before .before .args .at + 1) ≤ getD (c .before .before .before .before .before .args .s .now) (c .before .before .before .before .before .args .at + 1) 0 = omega arith in
     simp (item-at (c .before .before .before .before .before .args .s .now) (c .before .before .before .before .before .args .at) (c .before .before .before .before .if1 .left), ne-eqb _ _ (c .before .before .if2 .left), ne-eqb _ _ (c .before .if3 .left), le-ltb _ _ h)
 
--- src/options.rt:41:17
 add-len : tie.Need-add-len
 add-len c = search needs
 
--- src/options.rt:41:15
 shared-slice-read-len : tie.Need-shared-slice-read-len
 shared-slice-read-len c = search needs
 
--- src/options.rt:41:15
 cast-len : tie.Need-cast-len
 cast-len c = omega (arith, c .shared-slice-known2 .given (c .before .before .before .before .before .before .args .at + 1))
 
--- src/options.rt:43:9
 returns-5 : tie.Need-returns-5
 unfolding if_then_else_
 returns-5 c =
     let h : getD (c .before .before .before .before .before .before .before .args .s .now) (c .before .before .before .before .before .before .before .args .at + 1) 0 < length (c .before .before .before .before .before .before .before .args .s .now) - (c .before .before .before .before .before .before .before .args .at + 1) = omega arith in
     simp (item-at (c .before .before .before .before .before .before .before .args .s .now) (c .before .before .before .before .before .before .before .args .at) (c .before .before .before .before .before .before .if1 .left), ne-eqb _ _ (c .before .before .before .before .if2 .left), ne-eqb _ _ (c .before .before .before .if3 .left), lt-ltb _ _ h)
 
--- src/options.rt:24:1
 returns-6 : tie.Need-returns-6
 unfolding if_then_else_
 returns-6 c =

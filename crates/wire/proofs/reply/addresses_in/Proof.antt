@@ -1,14 +1,9 @@
 use Rattle.wire.proofs.Lists.{Gathered, gathered-none, gathered-more, gathered-all}
 use Rattle.octets.proofs.Runs.{part-tail}
 use lib.ListN.{length}
-use native.Mathlib.Omega.{arith}
 use borrow.Author.Needs.{needs}
 use Rattle.wire.proofs.reply.addresses_in.Statement.{statement}
 use Rattle.wire.proofs.reply.addresses_in.Tie as tie
-use Rattle.wire.proofs.reply.addresses_in.Reads as reads
-use Rattle.wire.proofs.reply.addresses_in.Lts as lts
-use Rattle.octets.proofs.word.join4.Reads as join4-reads
-use Rattle.wire.proofs.reply.with_address.Reads as with-address-reads
 
 abbrev Inv-loop : tie.InvT-loop
 Inv-loop body found₀ t₀ found t = Gathered body t found
@@ -16,57 +11,44 @@ Inv-loop body found₀ t₀ found t = Gathered body t found
 abbrev μ-loop : tie.MeasureT-loop
 μ-loop body found₀ t₀ found t = length t
 
--- src/reply.rt:210:5
 loop-holds : tie.Need-loop-holds Inv-loop μ-loop
 loop-holds c = gathered-none (c .before .args .body .now)
 
--- src/reply.rt:211:57
 shared-slice-read-join4 : tie.Need-shared-slice-read-join4 Inv-loop μ-loop
 shared-slice-read-join4 c = search needs
 
--- src/reply.rt:211:63
 shared-slice-read-join4-2 : tie.Need-shared-slice-read-join4-2 Inv-loop μ-loop
 shared-slice-read-join4-2 c = search needs
 
--- src/reply.rt:211:69
 shared-slice-read-join4-3 : tie.Need-shared-slice-read-join4-3 Inv-loop μ-loop
 shared-slice-read-join4-3 c = search needs
 
--- src/reply.rt:211:75
 shared-slice-read-join4-4 : tie.Need-shared-slice-read-join4-4 Inv-loop μ-loop
 shared-slice-read-join4-4 c = search needs
 
--- src/reply.rt:211:37
 join4-requires : tie.Need-join4-requires Inv-loop μ-loop
 join4-requires c κs = search needs
 
--- src/reply.rt:211:9
 with-address-requires : tie.Need-with-address-requires Inv-loop μ-loop
 with-address-requires c κs = search needs
 
--- src/reply.rt:212:13
 sub-t : tie.Need-sub-t Inv-loop μ-loop
 sub-t c = search needs
 
--- src/reply.rt:212:13
 part-t-start : tie.Need-part-t-start Inv-loop μ-loop
 part-t-start c = search needs
 
--- src/reply.rt:212:13
 part-t-end : tie.Need-part-t-end Inv-loop μ-loop
 part-t-end c = search needs
 
--- src/reply.rt:210:5
 loop-less : tie.Need-loop-less Inv-loop μ-loop
 loop-less c = search needs
 
--- src/reply.rt:210:5
 loop-again : tie.Need-loop-again Inv-loop μ-loop
 loop-again c =
     let t = c .before .before .before .before .before .before .before .before .loop .t .now in
     gathered-more (c .before .before .before .before .before .before .before .before .before .before .args .body .now) t _ (c .before .before .before .before .before .before .before .before .loop .found) (c .before .with-address .result) (c .before .before .join4 .result) (c .before .before .before .before .before .before .before .before .loop .inv) (c .before .before .before .before .before .before .before .loop-test .taken) (part-tail 4 t) (c .before .before .join4 .ensures) (c .before .with-address .ensures)
 
--- src/reply.rt:202:1
 returns : tie.Need-returns Inv-loop μ-loop
 returns c = gathered-all (c .before .before .before .args .body .now) (c .before .loop .t .now) (c .before .loop .found) (c .before .loop .inv) (c .loop-test .left)
 

@@ -1,52 +1,38 @@
 use Rattle.wire.proofs.Walks.{found, found-none}
 use Rattle.wire.specs.Readings.{typeOf}
-use mathlib.Core.Path.{_≡_, refl, sym, ap, _∙_}
+use mathlib.Core.Path.{ap, _∙_}
 use native.Mathlib.Omega.{arith}
 use borrow.Author.Needs.{needs}
 use Rattle.wire.proofs.reply.message_type.Statement.{statement}
 use Rattle.wire.proofs.reply.message_type.Tie as tie
-use Rattle.wire.proofs.reply.message_type.Reads as reads
-use Rattle.wire.proofs.reply.message_type.Lts as lts
-use Rattle.wire.proofs.options.find.Reads as find-reads
-use Rattle.wire.proofs.reply.type_in.Reads as type-in-reads
 
--- src/reply.rt:117:11
 find-requires : tie.Need-find-requires
 find-requires c κs = search needs
 
--- src/reply.rt:118:21
 enum-known-start : tie.Need-enum-known-start
 enum-known-start c = search needs
 
--- src/reply.rt:119:23
 add-end : tie.Need-add-end
 add-end c = omega (arith, found (c .before .start .given .0 .0) (c .before .start .given .0 .1 .0) (c .before .before .before .find .ensures) (c .before .start .given .1) .1)
 
--- src/reply.rt:120:21
 sub-type-in : tie.Need-sub-type-in
 sub-type-in c = search needs
 
--- src/reply.rt:120:21
 part-type-in-start : tie.Need-part-type-in-start
 part-type-in-start c = search needs
 
--- src/reply.rt:120:21
 part-type-in-end : tie.Need-part-type-in-end
 part-type-in-end c = omega (arith, found (c .before .start .given .0 .0) (c .before .start .given .0 .1 .0) (c .before .before .before .find .ensures) (c .before .start .given .1) .1)
 
--- src/reply.rt:120:13
 type-in-requires : tie.Need-type-in-requires
 type-in-requires c κs = search needs
 
--- src/reply.rt:122:27
 enum-told : tie.Need-enum-told
 enum-told c = search needs
 
--- src/reply.rt:114:1
 returns : tie.Need-returns
 returns c = c .type-in .ensures ∙ ap typeOf (found (c .before .before .before .start .given .0 .0) (c .before .before .before .start .given .0 .1 .0) (c .before .before .before .before .before .find .ensures) (c .before .before .before .start .given .1) .0)
 
--- src/reply.rt:114:1
 returns-2 : tie.Need-returns-2
 returns-2 c = ap typeOf (found-none (c .before .before .find .ensures) (c .enum-told .given .1))
 

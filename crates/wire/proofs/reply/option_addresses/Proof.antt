@@ -1,52 +1,38 @@
 use Rattle.wire.proofs.Walks.{found, found-none}
 use Rattle.wire.specs.Readings.{addressesOf}
-use mathlib.Core.Path.{_≡_, refl, sym, ap, _∙_}
+use mathlib.Core.Path.{ap, _∙_}
 use native.Mathlib.Omega.{arith}
 use borrow.Author.Needs.{needs}
 use Rattle.wire.proofs.reply.option_addresses.Statement.{statement}
 use Rattle.wire.proofs.reply.option_addresses.Tie as tie
-use Rattle.wire.proofs.reply.option_addresses.Reads as reads
-use Rattle.wire.proofs.reply.option_addresses.Lts as lts
-use Rattle.wire.proofs.options.find.Reads as find-reads
-use Rattle.wire.proofs.reply.addresses_in.Reads as addresses-in-reads
 
--- src/reply.rt:189:11
 find-requires : tie.Need-find-requires
 find-requires c κs = search needs
 
--- src/reply.rt:190:21
 enum-known-start : tie.Need-enum-known-start
 enum-known-start c = search needs
 
--- src/reply.rt:191:23
 add-end : tie.Need-add-end
 add-end c = omega (arith, found (c .before .start .given .0 .0) (c .before .start .given .0 .1 .0) (c .before .before .before .find .ensures) (c .before .start .given .1) .1)
 
--- src/reply.rt:192:26
 sub-addresses-in : tie.Need-sub-addresses-in
 sub-addresses-in c = search needs
 
--- src/reply.rt:192:26
 part-addresses-in-start : tie.Need-part-addresses-in-start
 part-addresses-in-start c = search needs
 
--- src/reply.rt:192:26
 part-addresses-in-end : tie.Need-part-addresses-in-end
 part-addresses-in-end c = omega (arith, found (c .before .start .given .0 .0) (c .before .start .given .0 .1 .0) (c .before .before .before .find .ensures) (c .before .start .given .1) .1)
 
--- src/reply.rt:192:13
 addresses-in-requires : tie.Need-addresses-in-requires
 addresses-in-requires c κs = search needs
 
--- src/reply.rt:195:19
 enum-told : tie.Need-enum-told
 enum-told c = search needs
 
--- src/reply.rt:186:1
 returns : tie.Need-returns
 returns c = c .addresses-in .ensures ∙ ap addressesOf (found (c .before .before .before .start .given .0 .0) (c .before .before .before .start .given .0 .1 .0) (c .before .before .before .before .before .find .ensures) (c .before .before .before .start .given .1) .0)
 
--- src/reply.rt:186:1
 returns-2 : tie.Need-returns-2
 returns-2 c = ap addressesOf (found-none (c .before .before .find .ensures) (c .enum-told .given .1))
 

@@ -4,27 +4,19 @@ use mathlib.Core.Path.{sym, ap}
 use borrow.Author.Needs.{needs}
 use Rattle.wire.proofs.reply.option_len.Statement.{statement}
 use Rattle.wire.proofs.reply.option_len.Tie as tie
-use Rattle.wire.proofs.reply.option_len.Reads as reads
-use Rattle.wire.proofs.reply.option_len.Lts as lts
-use Rattle.wire.proofs.options.find.Reads as find-reads
 
--- src/reply.rt:85:11
 find-requires : tie.Need-find-requires
 find-requires c κs = search needs
 
--- src/reply.rt:86:31
 enum-known-len : tie.Need-enum-known-len
 enum-known-len c = search needs
 
--- src/reply.rt:87:27
 enum-told : tie.Need-enum-told
 enum-told c = search needs
 
--- src/reply.rt:82:1
 returns : tie.Need-returns
 returns c = sym (found-length (c .before .len .given .0 .0) (c .before .len .given .0 .1 .0) (c .before .before .before .find .ensures) (c .before .len .given .1))
 
--- src/reply.rt:82:1
 returns-2 : tie.Need-returns-2
 returns-2 c = ap lengthOf (found-none (c .before .before .find .ensures) (c .enum-told .given .1))
 

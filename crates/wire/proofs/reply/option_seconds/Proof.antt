@@ -1,64 +1,47 @@
 use Rattle.wire.proofs.Walks.{found, found-none, found-size}
 use Rattle.wire.specs.Readings.{secondsOf}
-use lib.ListN.{length, take, drop, length-take, length-drop}
-use Prim.Native.Nat.{ℕ, _+_, _-_, _≤_}
 use borrow.Author.Tests.{eq-eqb, ne-eqb}
 use Rattle.clock.proofs.Choices.{if-true, if-false}
-use mathlib.Core.Path.{_≡_, refl, sym, ap, _∙_}
+use mathlib.Core.Path.{refl, sym, ap, _∙_}
 use native.Mathlib.Omega.{arith}
 use borrow.Author.Needs.{needs}
 use Rattle.wire.proofs.reply.option_seconds.Statement.{statement}
 use Rattle.wire.proofs.reply.option_seconds.Tie as tie
-use Rattle.wire.proofs.reply.option_seconds.Reads as reads
-use Rattle.wire.proofs.reply.option_seconds.Lts as lts
-use Rattle.octets.proofs.word.read_u32.Reads as read-u32-reads
-use Rattle.wire.proofs.options.find.Reads as find-reads
 
--- src/reply.rt:152:11
 find-requires : tie.Need-find-requires
 find-requires c κs = search needs
 
--- src/reply.rt:153:21
 enum-known-start : tie.Need-enum-known-start
 enum-known-start c = search needs
 
--- src/reply.rt:155:17
 returns : tie.Need-returns
 returns c =
     let e = found-size (c .before .before .start .given .0 .0) (c .before .before .start .given .0 .1 .0) (c .before .before .before .before .find .ensures) (c .before .before .start .given .1) in
     if-false _ (ne-eqb _ _ (λ q. c .if1 .taken (sym e ∙ q))) refl ∙ ap secondsOf (found (c .before .before .start .given .0 .0) (c .before .before .start .given .0 .1 .0) (c .before .before .before .before .find .ensures) (c .before .before .start .given .1) .0)
 
--- src/reply.rt:157:23
 add-end : tie.Need-add-end
 add-end c = omega (arith, found (c .before .before .start .given .0 .0) (c .before .before .start .given .0 .1 .0) (c .before .before .before .before .find .ensures) (c .before .before .start .given .1) .1)
 
--- src/reply.rt:158:36
 sub-read-u32 : tie.Need-sub-read-u32
 sub-read-u32 c = search needs
 
--- src/reply.rt:158:36
 part-read-u32-start : tie.Need-part-read-u32-start
 part-read-u32-start c = search needs
 
--- src/reply.rt:158:36
 part-read-u32-end : tie.Need-part-read-u32-end
 part-read-u32-end c = omega (arith, found (c .before .before .start .given .0 .0) (c .before .before .start .given .0 .1 .0) (c .before .before .before .before .find .ensures) (c .before .before .start .given .1) .1)
 
--- src/reply.rt:158:13
 read-u32-requires : tie.Need-read-u32-requires
 read-u32-requires c κs = search needs
 
--- src/reply.rt:160:27
 enum-told : tie.Need-enum-told
 enum-told c = search needs
 
--- src/reply.rt:149:1
 returns-2 : tie.Need-returns-2
 returns-2 c =
     let e = found-size (c .before .before .before .before .start .given .0 .0) (c .before .before .before .before .start .given .0 .1 .0) (c .before .before .before .before .before .before .find .ensures) (c .before .before .before .before .start .given .1) in
     if-true _ (eq-eqb _ _ (e ∙ c .before .before .if1 .left)) (c .read-u32 .ensures) ∙ ap secondsOf (found (c .before .before .before .before .start .given .0 .0) (c .before .before .before .before .start .given .0 .1 .0) (c .before .before .before .before .before .before .find .ensures) (c .before .before .before .before .start .given .1) .0)
 
--- src/reply.rt:149:1
 returns-3 : tie.Need-returns-3
 returns-3 c = ap secondsOf (found-none (c .before .before .find .ensures) (c .enum-told .given .1))
 

@@ -1,34 +1,25 @@
 use Rattle.wire.specs.Readings.{ifUnicast}
 use Rattle.clock.proofs.Choices.{if-true, if-false}
-use mathlib.Core.Path.{_≡_, refl, sym, ap, _∙_}
+use mathlib.Core.Path.{refl, sym, ap, _∙_}
 use borrow.Author.Needs.{needs}
 use Rattle.wire.proofs.reply.unicast_only.Statement.{statement}
 use Rattle.wire.proofs.reply.unicast_only.Tie as tie
-use Rattle.wire.proofs.reply.unicast_only.Reads as reads
-use Rattle.wire.proofs.reply.unicast_only.Lts as lts
-use Rattle.octets.proofs.address.x_is_unicast.Reads as x-is-unicast-reads
 
--- src/reply.rt:175:27
 enum-known-address : tie.Need-enum-known-address
 enum-known-address c = search needs
 
--- src/reply.rt:176:16
 x-is-unicast-requires : tie.Need-x-is-unicast-requires
 x-is-unicast-requires c κs = search needs
 
--- src/reply.rt:177:17
 returns : tie.Need-returns
 returns c = if-true _ (sym (c .before .x-is-unicast .ensures) ∙ c .if1 .taken) refl ∙ ap ifUnicast (sym (c .before .before .before .address .given .1))
 
--- src/reply.rt:181:30
 enum-told : tie.Need-enum-told
 enum-told c = search needs
 
--- src/reply.rt:171:1
 returns-2 : tie.Need-returns-2
 returns-2 c = if-false _ (sym (c .before .x-is-unicast .ensures) ∙ c .if1 .left) refl ∙ ap ifUnicast (sym (c .before .before .before .address .given .1))
 
--- src/reply.rt:171:1
 returns-3 : tie.Need-returns-3
 returns-3 c = search needs
 

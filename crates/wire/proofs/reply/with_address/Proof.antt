@@ -5,40 +5,30 @@ use lib.ListN.{set}
 use borrow.Author.Tests.{not-true, not-false}
 use Prim.Native.Nat.{ℕ, _+_, _≤_, _<_}
 use mathlib.Core.List.{List, [], _∷_, _++_, append-nil}
-use mathlib.Core.Path.{_≡_, refl, sym, ap, subst, _∙_}
+use mathlib.Core.Path.{_≡_, sym, ap, subst, _∙_}
 use borrow.Author.Needs.{needs}
 use Rattle.wire.proofs.reply.with_address.Statement.{statement}
 use Rattle.wire.proofs.reply.with_address.Tie as tie
-use Rattle.wire.proofs.reply.with_address.Reads as reads
-use Rattle.wire.proofs.reply.with_address.Lts as lts
-use Rattle.octets.proofs.address.x_is_unicast.Reads as x-is-unicast-reads
 
--- src/reply.rt:223:9
 returns : tie.Need-returns
 returns c = λ done e. e ∙ three-full done (unicastOnes (c .before .args .address ∷ [])) (subst (λ (f : Addresses). 3 ≤ f .count) e (c .if1 .taken))
 
--- src/reply.rt:225:9
 x-is-unicast-requires : tie.Need-x-is-unicast-requires
 x-is-unicast-requires c κs = search needs
 
--- src/reply.rt:226:9
 returns-2 : tie.Need-returns-2
 unfolding unicastOnes
 returns-2 c = λ done e. e ∙ ap firstThree (sym (append-nil done) ∙ ap (λ (l : List ℕ). done ++ l) (sym (ones-left (c .before .before .before .args .address) [] (sym (c .before .x-is-unicast .ensures) ∙ not-true _ (c .if2 .taken)))))
 
--- src/reply.rt:229:5
 mul-list : tie.Need-mul-list
 mul-list c = search needs
 
--- src/reply.rt:229:5
 array-write-list : tie.Need-array-write-list
 array-write-list c = search needs
 
--- src/reply.rt:232:16
 add-t7 : tie.Need-add-t7
 add-t7 c = search needs
 
--- src/reply.rt:218:1
 returns-3 : tie.Need-returns-3
 unfolding unicastOnes
 returns-3 c =

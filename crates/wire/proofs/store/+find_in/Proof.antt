@@ -22,87 +22,73 @@ find-in-at t = and 1 find-in-kinds.ps (is 1 find-in-kinds.ps μ-find-in t) find-
 abbrev find-in-below : ℕ → In 1 find-in-kinds.ps
 find-in-below t = and 1 find-in-kinds.ps (falls 1 find-in-kinds.ps _<_ μ-find-in t) find-in.Pre
 
--- src/store.rt:141:9
 find-in-returns :
     (t : ℕ) → find-in-lts.Need-returns (find-in-below t, find-in.Post) (find-in-at t) find-in.Post
 find-in-returns t c = sym (place-none (c .before .before .args .kind) (c .before .before .args .base) (c .before .before .args .s .now) (c .if1 .taken))
 
--- src/store.rt:143:15
 find-in-shared-slice-read-len : (t : ℕ) → find-in-lts.Need-shared-slice-read-len (
   find-in-below t,
   find-in.Post,
 ) (find-in-at t) find-in.Post
 find-in-shared-slice-read-len t c = search needs
 
--- src/store.rt:143:15
 find-in-cast-len :
     (t : ℕ) →
     find-in-lts.Need-cast-len (find-in-below t, find-in.Post) (find-in-at t) find-in.Post
 find-in-cast-len t c = omega (arith, c .shared-slice-known2 .given 1)
 
--- src/store.rt:144:8
 find-in-shared-slice-read-if2 : (t : ℕ) → find-in-lts.Need-shared-slice-read-if2 (
   find-in-below t,
   find-in.Post,
 ) (find-in-at t) find-in.Post
 find-in-shared-slice-read-if2 t c = search needs
 
--- src/store.rt:146:20
 find-in-add-t11 :
     (t : ℕ) → find-in-lts.Need-add-t11 (find-in-below t, find-in.Post) (find-in-at t) find-in.Post
 find-in-add-t11 t c = omega arith
 
--- src/store.rt:145:9
 find-in-returns-2 :
     (t : ℕ) →
     find-in-lts.Need-returns-2 (find-in-below t, find-in.Post) (find-in-at t) find-in.Post
 find-in-returns-2 t c = sym (place-here (c .before .before .before .before .before .args .kind) (c .before .before .before .before .before .args .base) (c .before .before .before .before .before .args .s .now) (omega arith) (c .if2 .taken))
 
--- src/store.rt:150:13
 find-in-add-n :
     (t : ℕ) → find-in-lts.Need-add-n (find-in-below t, find-in.Post) (find-in-at t) find-in.Post
 find-in-add-n t c = omega (arith, c .before .before .shared-slice-known2 .given 1)
 
--- src/store.rt:152:9
 find-in-returns-3 :
     (t : ℕ) →
     find-in-lts.Need-returns-3 (find-in-below t, find-in.Post) (find-in-at t) find-in.Post
 find-in-returns-3 t c = sym (place-cut (c .before .before .before .before .before .before .args .kind) (c .before .before .before .before .before .before .args .base) (c .before .before .before .before .before .before .args .s .now) (omega arith) (c .before .if2 .left) (c .if3 .taken))
 
--- src/store.rt:154:13
 find-in-sub-find-in :
     (t : ℕ) →
     find-in-lts.Need-sub-find-in (find-in-below t, find-in.Post) (find-in-at t) find-in.Post
 find-in-sub-find-in t c = search needs
 
--- src/store.rt:154:13
 find-in-part-find-in-start : (t : ℕ) → find-in-lts.Need-part-find-in-start (
   find-in-below t,
   find-in.Post,
 ) (find-in-at t) find-in.Post
 find-in-part-find-in-start t c = search needs
 
--- src/store.rt:154:13
 find-in-part-find-in-end : (t : ℕ) → find-in-lts.Need-part-find-in-end (
   find-in-below t,
   find-in.Post,
 ) (find-in-at t) find-in.Post
 find-in-part-find-in-end t c = search needs
 
--- src/store.rt:154:22
 find-in-add-find-in :
     (t : ℕ) →
     find-in-lts.Need-add-find-in (find-in-below t, find-in.Post) (find-in-at t) find-in.Post
 find-in-add-find-in t c = omega arith
 
--- src/store.rt:154:5
 find-in-find-in-requires : (t : ℕ) → find-in-lts.Need-find-in-requires (
   find-in-below t,
   find-in.Post,
 ) (find-in-at t) find-in.Post
 find-in-find-in-requires t c κs = simp (length-take, length-drop) (omega arith)
 
--- src/store.rt:136:1
 find-in-returns-4 :
     (t : ℕ) →
     find-in-lts.Need-returns-4 (find-in-below t, find-in.Post) (find-in-at t) find-in.Post

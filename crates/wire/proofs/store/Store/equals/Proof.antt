@@ -1,17 +1,11 @@
 use Rattle.wire.proofs.Stores.{take-most}
-use lib.Seq.{length-take-le, take-all}
-use lib.ListN.{take}
+use lib.Seq.{length-take-le}
 use lib.ListN.{length}
 use native.Mathlib.Omega.{arith}
-use mathlib.Core.Path.{_≡_, refl, sym, ap, _∙_}
-use Prim.Native.Nat.{_+_, _≤_, _<_}
+use mathlib.Core.Path.{_≡_, sym, _∙_}
 use borrow.Author.Needs.{needs}
 use Rattle.wire.proofs.store.Store.equals.Statement.{statement}
 use Rattle.wire.proofs.store.Store.equals.Tie as tie
-use Rattle.wire.proofs.store.Store.equals.Reads as reads
-use Rattle.wire.proofs.store.Store.equals.Lts as lts
-use Rattle.octets.proofs.run.same.Reads as same-reads
-use Rattle.wire.proofs.store.at_most.Reads as at-most-reads
 
 size : (c : tie.Start) → length (c .args .self .bytes) ≡ 256
 size c = search needs
@@ -19,35 +13,27 @@ size c = search needs
 size-other : (c : tie.Start) → length (c .args .other .bytes) ≡ 256
 size-other c = search needs
 
--- src/store.rt:119:13
 at-most-requires : tie.Need-at-most-requires
 at-most-requires c κs = search needs
 
--- src/store.rt:120:13
 at-most-requires-2 : tie.Need-at-most-requires-2
 at-most-requires-2 c κs = search needs
 
--- src/store.rt:121:27
 array-share-prefix-a : tie.Need-array-share-prefix-a
 array-share-prefix-a c = omega (arith, size (c .before .before .before .before))
 
--- src/store.rt:121:27
 slice-aggregate-same : tie.Need-slice-aggregate-same
 slice-aggregate-same c = sym (length-take-le (c .before .before .at-most .result) (c .before .before .before .before .before .args .self .bytes) (omega (arith, size (c .before .before .before .before .before))))
 
--- src/store.rt:121:36
 array-share-prefix-b : tie.Need-array-share-prefix-b
 array-share-prefix-b c = omega (arith, size-other (c .before .before .before .before .before))
 
--- src/store.rt:121:36
 slice-aggregate-same-2 : tie.Need-slice-aggregate-same-2
 slice-aggregate-same-2 c = sym (length-take-le (c .before .before .at-most2 .result) (c .before .before .before .before .before .before .args .other .bytes) (omega (arith, size-other (c .before .before .before .before .before .before))))
 
--- src/store.rt:121:9
 same-requires : tie.Need-same-requires
 same-requires c κs = search needs
 
--- src/store.rt:114:5
 returns : tie.Need-returns
 returns c =
     let a = take-most (c .before .before .before .before .before .before .before .args .self .bytes) (c .before .before .before .before .before .before .before .args .self .len) (size (c .before .before .before .before .before .before .before)) in

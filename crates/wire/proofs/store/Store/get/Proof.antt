@@ -6,54 +6,40 @@ use lib.Seq.{length-take-le}
 use borrow.Author.Tests.{not-true, not-false}
 use lib.ListN.{length}
 use native.Mathlib.Omega.{arith}
-use mathlib.Core.Path.{_≡_, refl, sym, ap, _∙_}
-use Prim.Native.Nat.{_+_, _≤_, _<_}
+use mathlib.Core.Path.{_≡_, refl, sym, _∙_}
 use borrow.Author.Needs.{needs}
 use Rattle.wire.proofs.store.Store.get.Statement.{statement}
 use Rattle.wire.proofs.store.Store.get.Tie as tie
-use Rattle.wire.proofs.store.Store.get.Reads as reads
-use Rattle.wire.proofs.store.Store.get.Lts as lts
-use Rattle.octets.proofs.item.whole_items.Reads as whole-items-reads
-use Rattle.wire.proofs.store.find_in.Reads as find-in-reads
 
 size : (c : tie.Start) → length (c .args .self .bytes) ≡ 256
 size c = search needs
 
--- src/store.rt:105:13
 returns : tie.Need-returns
 unfolding got
 returns c = if-false _ (whole-over (c .before .before .args .self) (c .if1 .taken)) refl
 
--- src/store.rt:107:39
 array-share-prefix-bytes : tie.Need-array-share-prefix-bytes
 array-share-prefix-bytes c = omega (arith, size (c .before .before))
 
--- src/store.rt:107:39
 slice-aggregate-whole-items : tie.Need-slice-aggregate-whole-items
 slice-aggregate-whole-items c = sym (length-take-le (c .before .before .before .args .self .len) (c .before .before .before .args .self .bytes) (omega (arith, size (c .before .before .before))))
 
--- src/store.rt:107:13
 whole-items-requires : tie.Need-whole-items-requires
 whole-items-requires c κs = search needs
 
--- src/store.rt:108:13
 returns-2 : tie.Need-returns-2
 unfolding got
 returns-2 c = if-false _ (whole-within (c .before .before .before .before .before .args .self) (c .before .before .before .if1 .left) ∙ sym (c .before .whole-items .ensures) ∙ not-true _ (c .if2 .taken)) refl
 
--- src/store.rt:110:17
 array-share-prefix-bytes-2 : tie.Need-array-share-prefix-bytes-2
 array-share-prefix-bytes-2 c = omega (arith, size (c .before .before .before .before .before))
 
--- src/store.rt:110:17
 slice-aggregate-find-in : tie.Need-slice-aggregate-find-in
 slice-aggregate-find-in c = sym (length-take-le (c .before .before .before .before .before .before .args .self .len) (c .before .before .before .before .before .before .args .self .bytes) (omega (arith, size (c .before .before .before .before .before .before))))
 
--- src/store.rt:110:9
 find-in-requires : tie.Need-find-in-requires
 find-in-requires c κs = simp length-take (omega arith)
 
--- src/store.rt:99:5
 returns-3 : tie.Need-returns-3
 unfolding got
 returns-3 c = if-true _ (whole-within (c .before .before .before .before .before .before .before .args .self) (c .before .before .before .before .before .if1 .left) ∙ sym (c .before .before .before .whole-items .ensures) ∙ not-false _ (c .before .before .if2 .left)) (c .find-in .ensures)

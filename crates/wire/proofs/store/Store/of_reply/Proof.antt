@@ -2,19 +2,13 @@ use Rattle.wire.proofs.Stores.{all-more, all-end}
 use Rattle.wire.proofs.Walks.{from, moved, lies, from-past}
 use Rattle.wire.specs.declared.options.Item.the-variants.{Pad, End, Whole}
 use Rattle.wire.specs.Stored.{storeOf, allPushed, pushed}
-use Rattle.wire.specs.Options.{DhcpOption}
-use lib.ListN.{length, take, drop, length-take, length-drop}
-use mathlib.Core.Path.{_≡_, refl, sym, ap, _∙_}
-use Prim.Native.Nat.{_+_, _-_, _≤_, _<_}
+use lib.ListN.{length, take, drop}
+use mathlib.Core.Path.{_≡_, sym, ap, _∙_}
+use Prim.Native.Nat.{_+_, _-_, _≤_}
 use native.Mathlib.Omega.{arith}
 use borrow.Author.Needs.{needs}
 use Rattle.wire.proofs.store.Store.of_reply.Statement.{statement}
 use Rattle.wire.proofs.store.Store.of_reply.Tie as tie
-use Rattle.wire.proofs.store.Store.of_reply.Reads as reads
-use Rattle.wire.proofs.store.Store.of_reply.Lts as lts
-use Rattle.wire.proofs.options.read_item.Reads as read-item-reads
-use Rattle.wire.proofs.store.Store.new.Reads as new-reads
-use Rattle.wire.proofs.store.Store.push.Reads as push-reads
 
 abbrev Inv-loop : tie.InvT-loop
 Inv-loop reply store₀ at₀ store at = storeOf reply ≡ allPushed store (from reply at)
@@ -26,51 +20,39 @@ abbrev μ-loop : tie.MeasureT-loop
 inside : (c : tie.After-known-told Inv-loop μ-loop) → c .before .before .before .before .before .loop .at + 2 + c .before .code .given .0 .1 .0 ≤ length (c .before .before .before .before .before .before .before .before .args .reply .now)
 inside c = lies (c .before .before .before .before .before .before .before .before .args .reply .now) (c .before .before .before .before .before .loop .at) (c .before .before .before .read-item .result) (Whole (c .before .code .given .0 .0) (c .before .code .given .0 .1 .0)) (c .before .before .before .read-item .ensures) (c .before .code .given .1) (c .before .before .before .before .loop-test .taken)
 
--- src/store.rt:65:13
 new-requires : tie.Need-new-requires Inv-loop μ-loop
 new-requires c κs = search needs
 
--- src/store.rt:67:9
 loop-holds : tie.Need-loop-holds Inv-loop μ-loop
 loop-holds c = ap (λ st. allPushed st (from (c .before .before .args .reply .now) 240)) (sym (c .new .ensures))
 
--- src/store.rt:68:19
 read-item-requires : tie.Need-read-item-requires Inv-loop μ-loop
 read-item-requires c κs = search needs
 
--- src/store.rt:69:31
 enum-known-code : tie.Need-enum-known-code Inv-loop μ-loop
 enum-known-code c = search needs
 
--- src/store.rt:70:33
 add-start : tie.Need-add-start Inv-loop μ-loop
 add-start c = omega (arith, inside c)
 
--- src/store.rt:71:31
 add-end : tie.Need-add-end Inv-loop μ-loop
 add-end c = omega (arith, inside c)
 
--- src/store.rt:72:46
 sub-push : tie.Need-sub-push Inv-loop μ-loop
 sub-push c = search needs
 
--- src/store.rt:72:46
 part-push-start : tie.Need-part-push-start Inv-loop μ-loop
 part-push-start c = search needs
 
--- src/store.rt:72:46
 part-push-end : tie.Need-part-push-end Inv-loop μ-loop
 part-push-end c = omega (arith, inside c)
 
--- src/store.rt:72:21
 push-requires : tie.Need-push-requires Inv-loop μ-loop
 push-requires c κs = search needs
 
--- src/store.rt:67:9
 loop-less : tie.Need-loop-less Inv-loop μ-loop
 loop-less c = omega (arith, inside (c .before .before))
 
--- src/store.rt:67:9
 loop-again : tie.Need-loop-again Inv-loop μ-loop
 loop-again c =
     let s = c .before .before .before .before .before .before .before .before .before .before .args .reply .now in
@@ -81,31 +63,24 @@ loop-again c =
     let kept : c .push .result ≡ pushed (c .before .before .before .before .before .before .before .loop .store) k (take n (drop (at + 2) s)) = c .push .ensures ∙ rw size in
     c .before .before .before .before .before .before .before .loop .inv ∙ ap (allPushed (c .before .before .before .before .before .before .before .loop .store)) (moved s at (c .before .before .before .before .before .read-item .result) (Whole k n) (c .before .before .before .before .before .read-item .ensures) (c .before .before .before .code .given .1)) ∙ all-more (c .before .before .before .before .before .before .before .loop .store) (record { code = k; body = take n (drop (at + 2) s) }) (from s (at + 2 + n)) ∙ ap (λ st. allPushed st (from s (at + 2 + n))) (sym kept)
 
--- src/store.rt:76:21
 enum-told : tie.Need-enum-told Inv-loop μ-loop
 enum-told c = search needs
 
--- src/store.rt:76:21
 add-at : tie.Need-add-at Inv-loop μ-loop
 add-at c = search needs
 
--- src/store.rt:67:9
 loop-less-2 : tie.Need-loop-less-2 Inv-loop μ-loop
 loop-less-2 c = search needs
 
--- src/store.rt:67:9
 loop-again-2 : tie.Need-loop-again-2 Inv-loop μ-loop
 loop-again-2 c = c .before .before .before .before .loop .inv ∙ ap (allPushed (c .before .before .before .before .loop .store)) (moved (c .before .before .before .before .before .before .before .args .reply .now) (c .before .before .before .before .loop .at) (c .before .before .read-item .result) Pad (c .before .before .read-item .ensures) (c .enum-told .given .1))
 
--- src/store.rt:79:21
 enum-told-2 : tie.Need-enum-told-2 Inv-loop μ-loop
 enum-told-2 c = search needs
 
--- src/store.rt:79:21
 returns : tie.Need-returns Inv-loop μ-loop
 returns c = sym (c .before .before .before .before .loop .inv ∙ ap (allPushed (c .before .before .before .before .loop .store)) (moved (c .before .before .before .before .before .before .before .args .reply .now) (c .before .before .before .before .loop .at) (c .before .before .read-item .result) End (c .before .before .read-item .ensures) (c .enum-told2 .given .1)) ∙ all-end (c .before .before .before .before .loop .store))
 
--- src/store.rt:62:5
 returns-2 : tie.Need-returns-2 Inv-loop μ-loop
 returns-2 c = sym (c .before .loop .inv ∙ ap (allPushed (c .before .loop .store)) (from-past (c .before .before .before .before .args .reply .now) (c .before .loop .at) (c .loop-test .left)) ∙ all-end (c .before .loop .store))
 

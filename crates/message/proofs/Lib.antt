@@ -1,0 +1,5 @@
+pub mod Writers
+pub mod Sums
+pub mod Messages
+pub mod Answers
+pub mod Datagrams

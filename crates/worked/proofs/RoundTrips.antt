@@ -1,0 +1,94 @@
+-- What the writer of messages wrote, the reader of replies reads: every option, in order. Assumes nothing.
+use Prim.Native.Nat.{ℕ, _<_}
+use mathlib.Core.Bool.{Bool, true, false}
+use mathlib.Core.Path.{_≡_, refl, ap, _∙_}
+use mathlib.Core.List.{List, [], _∷_, _++_, append-assoc}
+use mathlib.Core.Option.{some}
+use native.Mathlib.Omega.{arith}
+use lib.ListN.{length, length-append}
+use lib.Seq.{drop-at}
+use Rattle.clock.specs.Choice.{if_then_else_}
+use Rattle.octets.specs.Words.{bytes16, bytes32}
+use Rattle.octets.specs.Items.{option}
+use Rattle.octets.specs.declared.number.MaybeNumber.{MaybeNumber}
+use Rattle.octets.specs.declared.number.MaybeNumber.the-variants.{None, Some}
+use Rattle.wire.specs.Options.{DhcpOption, optionsFrom, optionsOf, optionData, firstWith}
+use Rattle.wire.specs.Readings.{messageType, typeOf}
+use Rattle.wire.proofs.Walks.{walk-option}
+use Rattle.message.specs.Messages.{message, header, optionIf, addressOption, sizeOption, nameOption, given, options}
+use Rattle.message.specs.declared.message.Message.{Message}
+use Rattle.worked.specs.Sent.{item, nameItem, addressItem, sizeItem, listItem, sent}
+
+-- An option of the writer's, read.
+one : (code : ℕ) (body r : List ℕ) → 0 < code → code < 255 → optionsFrom 0 (option code body ++ r) ≡ item code body ∷ optionsFrom 0 r
+one code body r h k = walk-option code body r (λ e. omega arith) (λ e. omega arith)
+
+named : (name r : List ℕ) → optionsFrom 0 (nameOption name ++ r) ≡ nameItem name ++ optionsFrom 0 r
+unfolding nameOption
+named [] r = refl
+named (x ∷ xs) r = one 12 (x ∷ xs) r (omega arith) (omega arith)
+
+addressed : (code : ℕ) (address : MaybeNumber) (r : List ℕ) → 0 < code → code < 255 → optionsFrom 0 (addressOption code address ++ r) ≡ addressItem code address ++ optionsFrom 0 r
+unfolding addressOption
+addressed code None r h k = refl
+addressed code (Some a) r h k = one code (bytes32 a) r h k
+
+sized : (size : MaybeNumber) (r : List ℕ) → optionsFrom 0 (sizeOption 57 size ++ r) ≡ sizeItem size ++ optionsFrom 0 r
+unfolding sizeOption
+sized None r = refl
+sized (Some n) r = one 57 (bytes16 n) r (omega arith) (omega arith)
+
+listed : (asks : Bool) (list r : List ℕ) → optionsFrom 0 (optionIf asks 55 list ++ r) ≡ listItem asks list ++ optionsFrom 0 r
+unfolding optionIf if_then_else_
+listed true list r = one 55 list r (omega arith) (omega arith)
+listed false list r = refl
+
+flatten : (a b c d e f g x y : List ℕ) → ((a ++ (b ++ c)) ++ ((d ++ (e ++ f)) ++ (g ++ x))) ++ y ≡ a ++ (b ++ (c ++ (d ++ (e ++ (f ++ (g ++ (x ++ y)))))))
+flatten a b c d e f g x y = simp append-assoc
+
+-- The writer's options, one behind the other, then what follows.
+abbrev row : Message → List ℕ → List ℕ → List ℕ → List ℕ
+row m name list rest =
+    option 53 (m .kind ∷ []) ++ (option 61 (1 ∷ m .hardware) ++ (nameOption name ++ (addressOption 50 (m .requested) ++ (addressOption 54 (m .server) ++ (sizeOption 57 (m .size) ++ (optionIf (m .asks) 55 list ++ rest))))))
+
+-- All of them.
+module _ (m : Message) (name list extra : List ℕ) where
+  abbrev rest : List ℕ
+  rest = extra ++ (255 ∷ [])
+
+  told : optionsFrom 0 (addressOption 50 (m .requested) ++ (addressOption 54 (m .server) ++ (sizeOption 57 (m .size) ++ (optionIf (m .asks) 55 list ++ rest))))
+      ≡ addressItem 50 (m .requested) ++ (addressItem 54 (m .server) ++ (sizeItem (m .size) ++ (listItem (m .asks) list ++ optionsFrom 0 rest)))
+  told =
+      addressed 50 (m .requested) _ (omega arith) (omega arith)
+      ∙ ap (λ (l : List DhcpOption). addressItem 50 (m .requested) ++ l)
+      (addressed 54 (m .server) _ (omega arith) (omega arith)
+      ∙ ap (λ (l : List DhcpOption). addressItem 54 (m .server) ++ l)
+      (sized (m .size) _ ∙ ap (λ (l : List DhcpOption). sizeItem (m .size) ++ l) (listed (m .asks) list rest)))
+
+  in-row : optionsFrom 0 (row m name list rest)
+      ≡ sent m name list ++ optionsFrom 0 rest
+  in-row =
+      one 53 (m .kind ∷ []) _ (omega arith) (omega arith)
+      ∙ ap (λ (l : List DhcpOption). item 53 (m .kind ∷ []) ∷ l)
+      (one 61 (1 ∷ m .hardware) _ (omega arith) (omega arith)
+      ∙ ap (λ (l : List DhcpOption). item 61 (1 ∷ m .hardware) ∷ l) (named name _ ∙ ap (λ (l : List DhcpOption). nameItem name ++ l) told))
+      ∙ simp append-assoc
+
+  -- The options of a message that was written are those it was given, then the extra ones.
+  pub round-trip : length (m .hardware) ≡ 6 → optionsOf (message m name list extra) ≡ sent m name list ++ optionsFrom 0 rest
+  unfolding message
+  round-trip six =
+      let fixed : length (header (m .id) (m .client) (m .hardware)) ≡ 240 = simp length-append (omega arith) in
+      let field = drop-at (header (m .id) (m .client) (m .hardware)) (options m name list extra ++ (255 ∷ [])) 240 fixed in
+      let flat : options m name list extra ++ (255 ∷ []) ≡ row m name list (extra ++ (255 ∷ [])) =
+      flatten (option 53 (m .kind ∷ [])) (option 61 (1 ∷ m .hardware)) (nameOption name) (addressOption 50 (m .requested)) (addressOption 54 (m .server)) (sizeOption 57 (m .size)) (optionIf (m .asks) 55 list) extra (255 ∷ []) in
+      ap (optionsFrom 0) (field ∙ flat) ∙ in-row
+
+  -- So the first of each code is the one it was given: the message type, and the client identifier.
+  pub type-read : length (m .hardware) ≡ 6 → messageType (message m name list extra) ≡ Some (m .kind)
+  unfolding firstWith if_then_else_
+  type-read six = ap (λ (os : List DhcpOption). typeOf (firstWith 53 os)) (round-trip six)
+
+  pub client-read : length (m .hardware) ≡ 6 → optionData 61 (message m name list extra) ≡ some (1 ∷ m .hardware)
+  unfolding firstWith if_then_else_
+  client-read six = ap (firstWith 61) (round-trip six)
