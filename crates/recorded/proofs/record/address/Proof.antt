@@ -1,0 +1,70 @@
+use borrow.Author.Needs.{needs}
+use lib.ListN.{length}
+use Prim.Native.Nat.{_≤_, _-_}
+use Rattle.recorded.proofs.record.address.Statement.{statement}
+use Rattle.recorded.proofs.record.address.Tie as tie
+
+abbrev Inv-loop : tie.InvT-loop
+Inv-loop s high₀ low₀ i₀ high low i = i ≤ length s
+
+abbrev μ-loop : tie.MeasureT-loop
+μ-loop s high₀ low₀ i₀ high low i = length s - i
+
+loop-holds : tie.Need-loop-holds Inv-loop μ-loop
+loop-holds c = search needs
+
+shared-slice-read-hex-digit : tie.Need-shared-slice-read-hex-digit Inv-loop μ-loop
+shared-slice-read-hex-digit c = search needs
+
+hex-digit-requires : tie.Need-hex-digit-requires Inv-loop μ-loop
+hex-digit-requires c κs = search needs
+
+with-digit-requires : tie.Need-with-digit-requires Inv-loop μ-loop
+with-digit-requires c κs = search needs
+
+shared-slice-read-if2 : tie.Need-shared-slice-read-if2 Inv-loop μ-loop
+shared-slice-read-if2 c = search needs
+
+joined-requires : tie.Need-joined-requires Inv-loop μ-loop
+joined-requires c κs = search needs
+
+returns : tie.Need-returns Inv-loop μ-loop
+returns c = search needs
+
+joined-requires-2 : tie.Need-joined-requires-2 Inv-loop μ-loop
+joined-requires-2 c κs = search needs
+
+add-i : tie.Need-add-i Inv-loop μ-loop
+add-i c = search needs
+
+loop-less : tie.Need-loop-less Inv-loop μ-loop
+loop-less c = search needs
+
+loop-again : tie.Need-loop-again Inv-loop μ-loop
+loop-again c = search needs
+
+joined-requires-3 : tie.Need-joined-requires-3 Inv-loop μ-loop
+joined-requires-3 c κs = search needs
+
+returns-2 : tie.Need-returns-2 Inv-loop μ-loop
+returns-2 c = search needs
+
+pub address-spec : {M : Type 1} → statement M
+address-spec =
+    tie.close
+    (tie.spec
+    Inv-loop
+    μ-loop
+    loop-holds
+    shared-slice-read-hex-digit
+    hex-digit-requires
+    with-digit-requires
+    shared-slice-read-if2
+    joined-requires
+    returns
+    joined-requires-2
+    add-i
+    loop-less
+    loop-again
+    joined-requires-3
+    returns-2)
