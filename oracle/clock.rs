@@ -1,4 +1,4 @@
-// The lines of crates/worked/src/grid.rt, answered by the Rust: oracle/clock builds this beside src/time.rs and src/rand.rs.
+// The lines of crates/limits/src/grid.rt, answered by the Rust: oracle/clock builds this beside src/time.rs and src/rand.rs.
 use rand::Rand;
 use std::fmt::Write;
 use time::{Clock, Duration, Instant};

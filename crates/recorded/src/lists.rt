@@ -22,20 +22,21 @@ use crate::replies;
 use crate::stores;
 use crate::tally::Tally;
 use crate::tally::more;
+use crate::text::put;
 use crate::text::up_to;
 use libc::STDOUT_FILENO;
 
 pub fn all() {
-    list(b"wire", b"wire.calls", b"wire.answers");
-    list(b"replies", b"replies.calls", b"replies.answers");
-    list(b"polls", b"polls.calls", b"polls.answers");
-    list(b"corners", b"corners.calls", b"corners.answers");
-    list(b"runs", b"runs.calls", b"runs.answers");
+    list(b"wire");
+    list(b"replies");
+    list(b"polls");
+    list(b"corners");
+    list(b"runs");
 }
 
-fn list(name: &[u8], calls: &[u8], answers: &[u8]) {
+fn list(name: &[u8]) {
     let mut text = space();
-    list_in(&mut text, name, calls, answers);
+    list_in(&mut text, name);
 }
 
 // Room for a list and its answers.
@@ -45,14 +46,21 @@ fn space() -> [u8; 2097152]
     [0; 2097152]
 }
 
-fn list_in(text: &mut [u8], name: &[u8], calls: &[u8], answers: &[u8]) {
-    let split = load(text, 0, calls);
-    let end = load(text, split, answers);
+fn list_in(text: &mut [u8], name: &[u8]) {
+    let split = load(text, 0, name, b".calls");
+    let end = load(text, split, name, b".answers");
     run(name, up_to(text, end), split).print(name);
 }
 
-// Reads a file into buf from `at` on, and answers where it ends there.
-fn load(buf: &mut [u8], at: usize, path: &[u8]) -> usize {
+// Reads a file, its name in two parts, into buf from `at` on, and answers where it ends there.
+fn load(buf: &mut [u8], at: usize, name: &[u8], end: &[u8]) -> usize {
+    let mut path = [0u8; 64];
+    let n1 = put(&mut path, 0, name);
+    let n2 = put(&mut path, n1, end);
+    load_path(buf, at, up_to(&path, n2))
+}
+
+fn load_path(buf: &mut [u8], at: usize, path: &[u8]) -> usize {
     if buf.len() < at {
         return at;
     }
@@ -184,6 +192,19 @@ fn last(text: &[u8], old: usize, new: usize) -> usize {
 
 fn compared(text: &[u8], call: &[u8], standing: Standing, lines: Lines) -> Tally {
     let tally = standing.tally;
+    if begins(call, b"poll ") {
+        let settings = line_at(text, standing.settings);
+        return messages::poll(text, call, settings, lines, tally);
+    }
+    if begins(call, b"process ") {
+        let settings = line_at(text, standing.settings);
+        let state = line_at(text, standing.state);
+        return replies::process(text, call, settings, state, lines, tally);
+    }
+    looked_up(text, call, lines, tally)
+}
+
+fn looked_up(text: &[u8], call: &[u8], lines: Lines, tally: Tally) -> Tally {
     if begins(call, b"mask ") {
         return masks::mask(call, line_at(text, lines.first), tally);
     }
@@ -192,14 +213,6 @@ fn compared(text: &[u8], call: &[u8], standing: Standing, lines: Lines) -> Tally
     }
     if begins(call, b"get ") {
         return stores::get(text, call, lines, tally);
-    }
-    let settings = line_at(text, standing.settings);
-    if begins(call, b"poll ") {
-        return messages::poll(text, call, settings, lines, tally);
-    }
-    if begins(call, b"process ") {
-        let state = line_at(text, standing.state);
-        return replies::process(text, call, settings, state, lines, tally);
     }
     tally
 }

@@ -35,12 +35,23 @@ fn put_prefix(buf: &mut [u8], at: usize, words: &[u8], prefix: u32) -> usize {
 }
 
 pub fn option(call: &[u8], answer: &[u8], tally: Tally) -> Tally {
-    let kind = number(after(call, b"option kind=")) % 256;
     let mut reply = io::large_buffer();
-    let len = octets_in(after(call, b"option kind=% reply="), &mut reply);
+    let n = octets_in(after(call, b"option kind=% reply="), &mut reply);
+    tally.count(
+        MASKS_AND_OPTIONS,
+        is_optioned(kind(call), up_to(&reply, n), answer),
+    )
+}
+
+fn kind(call: &[u8]) -> u8 {
+    let kind = number(after(call, b"option kind="));
+    (kind % 256) as u8
+}
+
+fn is_optioned(kind: u8, reply: &[u8], answer: &[u8]) -> bool {
     let mut buf = [0u8; 1024];
-    let n = put_optioned(&mut buf, kind as u8, up_to(&reply, len));
-    tally.count(MASKS_AND_OPTIONS, octets::run::same(up_to(&buf, n), answer))
+    let n = put_optioned(&mut buf, kind, reply);
+    octets::run::same(up_to(&buf, n), answer)
 }
 
 fn put_optioned(buf: &mut [u8], kind: u8, reply: &[u8]) -> usize {

@@ -54,20 +54,19 @@ fn kind(state: &[u8]) -> usize {
 
 // The message that is due in a state: a Discover, a Request for what was offered, or one for the address that is held.
 fn due(settings: &[u8], state: &[u8], lease: &[u8]) -> Message {
-    let id = post::id(state);
     if begins(state, b"discovering ") {
-        return message(settings, 1, id, 0, MaybeNumber::None, MaybeNumber::None);
+        return message(settings, state, 1, 0, MaybeNumber::None, MaybeNumber::None);
     }
     if begins(state, b"requesting ") {
         let requested = MaybeNumber::Some(post::requested(state));
         let server = MaybeNumber::Some(post::identifier(state));
-        return message(settings, 3, id, 0, requested, server);
+        return message(settings, state, 3, 0, requested, server);
     }
     let client = address(post::lease_address(lease));
     message(
         settings,
+        state,
         3,
-        id,
         client,
         MaybeNumber::None,
         MaybeNumber::None,
@@ -76,15 +75,15 @@ fn due(settings: &[u8], state: &[u8], lease: &[u8]) -> Message {
 
 fn message(
     settings: &[u8],
+    state: &[u8],
     kind: u8,
-    id: u32,
     client: u32,
     requested: MaybeNumber,
     server: MaybeNumber,
 ) -> Message {
     Message {
         kind,
-        id,
+        id: post::id(state),
         client,
         hardware: post::hardware(settings),
         requested,
@@ -104,17 +103,35 @@ fn size(mtu: u32) -> u32 {
 
 // Whether the message, written into a buffer as it was lent, leaves the buffer that is recorded.
 fn is_sent(call: &[u8], settings: &[u8], sent: &[u8], buffer: &[u8], message: Message) -> bool {
-    let lent = number(after(call, b"poll step=% length=")) as usize;
-    let fill = number(after(call, b"poll step=% length=% fill="));
     let mut ours = io::large_buffer();
-    let mut theirs = io::large_buffer();
-    lend(&mut ours, fill);
-    recorded_in(&mut theirs, fill, after(buffer, b"buffer bytes="));
-    let n = write_in(&mut ours, lent, route(settings, sent), settings, message);
+    lend(&mut ours, fill(call));
+    let n = write_in(
+        &mut ours,
+        lent(call),
+        route(settings, sent),
+        settings,
+        message,
+    );
     if n != length(sent) {
         return false;
     }
-    octets::run::same(&ours, &theirs)
+    is_recorded(&ours, call, buffer)
+}
+
+fn is_recorded(ours: &[u8], call: &[u8], buffer: &[u8]) -> bool {
+    let mut theirs = io::large_buffer();
+    lend(&mut theirs, fill(call));
+    octets_in(after(buffer, b"buffer bytes="), &mut theirs);
+    octets::run::same(ours, &theirs)
+}
+
+// How much was lent, and the first octet of it.
+fn lent(call: &[u8]) -> usize {
+    number(after(call, b"poll step=% length=")) as usize
+}
+
+fn fill(call: &[u8]) -> u32 {
+    number(after(call, b"poll step=% length=% fill="))
 }
 
 // Writes the message into the first octets of buf, as many as were lent.
@@ -123,12 +140,6 @@ fn write_in(buf: &mut [u8], lent: usize, route: Route, settings: &[u8], m: Messa
         return 0;
     }
     write(&mut buf[..lent], route, settings, m)
-}
-
-// A buffer as it is lent, with the recorded octets over its start.
-fn recorded_in(buf: &mut [u8], fill: u32, recorded: &[u8]) {
-    lend(buf, fill);
-    octets_in(recorded, buf);
 }
 
 // Octet i is fill + i, modulo 256.
@@ -154,18 +165,29 @@ fn route(settings: &[u8], sent: &[u8]) -> Route {
 fn write(buf: &mut [u8], route: Route, settings: &[u8], m: Message) -> usize {
     let mut name = [0u8; 256];
     let mut list = [0u8; 256];
-    let mut extra = [0u8; 256];
     let named = octets_in(post::name(settings), &mut name);
     let asked = post::request_list(settings, &mut list);
-    let more = octets_in(post::extra(settings), &mut extra);
-    match message::write_message(
+    write_lists(
         buf,
         route,
+        settings,
         m,
         up_to(&name, named),
         up_to(&list, asked),
-        up_to(&extra, more),
-    ) {
+    )
+}
+
+fn write_lists(
+    buf: &mut [u8],
+    route: Route,
+    settings: &[u8],
+    m: Message,
+    name: &[u8],
+    list: &[u8],
+) -> usize {
+    let mut extra = [0u8; 256];
+    let n = octets_in(post::extra(settings), &mut extra);
+    match message::write_message(buf, route, m, name, list, up_to(&extra, n)) {
         Answer::Length(n) => n,
         Answer::Refused(_) => 0,
     }

@@ -51,16 +51,20 @@ pub fn extra(settings: &[u8]) -> &[u8] {
 
 // The id of a line init, discovering, requesting or renewing.
 pub fn id(state: &[u8]) -> u32 {
-    if begins(state, b"init ") {
-        return number(after(state, b"init id="));
-    }
-    if begins(state, b"discovering ") {
-        return number(after(state, b"discovering id="));
-    }
     if begins(state, b"requesting ") {
         return number(after(state, b"requesting id="));
     }
-    number(after(state, b"renewing id="))
+    if begins(state, b"renewing ") {
+        return number(after(state, b"renewing id="));
+    }
+    id_without_lease(state)
+}
+
+fn id_without_lease(state: &[u8]) -> u32 {
+    if begins(state, b"init ") {
+        return number(after(state, b"init id="));
+    }
+    number(after(state, b"discovering id="))
 }
 
 // What a requesting line says of the offer.

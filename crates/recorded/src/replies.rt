@@ -39,12 +39,31 @@ pub fn process(
     if rusts == 9 {
         return tally.count(NOT_WHOLE, true);
     }
-    let mut reply = io::large_buffer();
-    let n = octets_in(after(call, b"process step=% source=% reply="), &mut reply);
-    let ours = check(up_to(&reply, n), post::hardware(settings), post::id(state));
-    let counted = numbered(tally, ours, rusts);
+    let lease = line_at(text, answer.lease);
+    judged(
+        call,
+        post::hardware(settings),
+        post::id(state),
+        rusts,
+        lease,
+        tally,
+    )
+}
+
+fn judged(
+    call: &[u8],
+    hardware: [u8; 6],
+    id: u32,
+    rusts: u32,
+    lease: &[u8],
+    tally: Tally,
+) -> Tally {
+    let mut buf = io::large_buffer();
+    let n = octets_in(after(call, b"process step=% source=% reply="), &mut buf);
+    let reply = up_to(&buf, n);
+    let counted = numbered(tally, check(reply, hardware, id), rusts);
     if rusts == 0 {
-        return leased(up_to(&reply, n), line_at(text, answer.lease), counted);
+        return leased(reply, lease, counted);
     }
     counted
 }
@@ -165,12 +184,16 @@ fn put_words(buf: &mut [u8], at: usize, words: &[u8], address: u32) -> usize {
 }
 
 fn put_dns(buf: &mut [u8], at: usize, servers: Addresses) -> usize {
-    let list = servers.list;
     let n1 = put(buf, at, b" dns=");
     let n2 = put_count(buf, n1, servers.count);
-    let n3 = put_words(buf, n2, b" ", list[0]);
-    let n4 = put_words(buf, n3, b" ", list[1]);
-    put_words(buf, n4, b" ", list[2])
+    let list = servers.list;
+    put_servers(buf, n2, list)
+}
+
+fn put_servers(buf: &mut [u8], at: usize, list: [u32; 3]) -> usize {
+    let n1 = put_words(buf, at, b" ", list[0]);
+    let n2 = put_words(buf, n1, b" ", list[1]);
+    put_words(buf, n2, b" ", list[2])
 }
 
 fn put_count(buf: &mut [u8], at: usize, count: usize) -> usize {

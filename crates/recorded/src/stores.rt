@@ -19,14 +19,19 @@ pub fn get(text: &[u8], call: &[u8], answer: Lines, tally: Tally) -> Tally {
     if !begins(first, b"got ") {
         return tally.differs();
     }
-    let kind = number(after(call, b"get step=% kind=")) % 256;
-    let got = look_up(line_at(text, answer.lease), kind as u8);
+    let lease = line_at(text, answer.lease);
+    tally.count(GETS, is_got(first, look_up(lease, kind(call))))
+}
+
+fn kind(call: &[u8]) -> u8 {
+    let kind = number(after(call, b"get step=% kind="));
+    (kind % 256) as u8
+}
+
+fn is_got(answer: &[u8], got: Got) -> bool {
     let mut buf = [0u8; 128];
     let n = put_got(&mut buf, got);
-    tally.count(
-        GETS,
-        octets::run::same(up_to(&buf, n), after(first, b"got moment=% ")),
-    )
+    octets::run::same(up_to(&buf, n), after(answer, b"got moment=% "))
 }
 
 // In a state without a lease there is none.
@@ -52,18 +57,22 @@ fn stored(options: &[u8]) -> Store {
 fn put_got(buf: &mut [u8], got: Got) -> usize {
     match got {
         Got::Absent => put(buf, 0, b"number=0 found=0 place=0 length=0"),
-        Got::At { place, len } => {
-            let n1 = put(buf, 0, b"number=0 found=1 place=");
-            let n2 = put_size(buf, n1, place);
-            let n3 = put(buf, n2, b" length=");
-            put_size(buf, n3, len)
-        }
-        Got::Refused(number) => {
-            let n1 = put(buf, 0, b"number=");
-            let n2 = put_number(buf, n1, number);
-            put(buf, n2, b" found=0 place=0 length=0")
-        }
+        Got::At { place, len } => put_place(buf, place, len),
+        Got::Refused(number) => put_refused(buf, number),
     }
+}
+
+fn put_place(buf: &mut [u8], place: usize, len: usize) -> usize {
+    let n1 = put(buf, 0, b"number=0 found=1 place=");
+    let n2 = put_size(buf, n1, place);
+    let n3 = put(buf, n2, b" length=");
+    put_size(buf, n3, len)
+}
+
+fn put_refused(buf: &mut [u8], number: u32) -> usize {
+    let n1 = put(buf, 0, b"number=");
+    let n2 = put_number(buf, n1, number);
+    put(buf, n2, b" found=0 place=0 length=0")
 }
 
 // A place or a length within a store.

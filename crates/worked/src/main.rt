@@ -1,9 +1,8 @@
-// Document 01's worked examples that are not marked ★, then what the Rust answered, run and printed. The figures in the
-// file stdout are the paper's, the Rust's (oracle/clock), or worked out in a comment here.
+// Document 01's worked examples that are not marked ★, and published vectors, run and printed. The figures in the file
+// stdout are the papers', or worked out in a comment here.
 use libc::STDOUT_FILENO;
 use octets::MaybeNumber;
 
-mod grid;
 mod reading;
 mod time;
 mod writing;
@@ -11,11 +10,6 @@ mod writing;
 fn main() {
     io::write_all(STDOUT_FILENO, b"src/time.rs\n");
     time::examples();
-    io::write_all(
-        STDOUT_FILENO,
-        b"src/time.rs and src/rand.rs as the Rust answers\n",
-    );
-    grid::all();
     io::write_all(STDOUT_FILENO, b"addresses, replies, the store\n");
     reading::examples();
     io::write_all(STDOUT_FILENO, b"messages\n");

@@ -1,7 +1,7 @@
 use Prim.Native.Nat.{_≤_, _-_}
 use borrow.Author.Needs.{needs}
-use Rattle.worked.proofs.grid.pairs.Statement.{statement}
-use Rattle.worked.proofs.grid.pairs.Tie as tie
+use Rattle.limits.proofs.grid.pairs.Statement.{statement}
+use Rattle.limits.proofs.grid.pairs.Tie as tie
 
 abbrev Inv-loop : tie.InvT-loop
 Inv-loop n₀ n = n ≤ 225
