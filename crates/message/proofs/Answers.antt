@@ -12,7 +12,8 @@ use Rattle.octets.specs.Runs.{over}
 use Rattle.octets.specs.Items.{wholeItems}
 use Rattle.message.specs.Messages.{message}
 use Rattle.message.specs.Datagrams.{datagram}
-use Rattle.message.specs.Written.{Short, listFits, measured, written, bufferAfter}
+use Rattle.message.specs.Written.{listFits, measured, written, bufferAfter}
+use Rattle.message.specs.Pieces.{Short}
 use Rattle.message.specs.declared.datagram.Route.{Route}
 use Rattle.message.specs.declared.message.Message.{Message}
 use Rattle.message.specs.declared.message.Answer.the-variants.{Length, Refused}

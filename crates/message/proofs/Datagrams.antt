@@ -8,7 +8,7 @@ use native.Mathlib.Omega.{arith}
 use Rattle.clock.specs.Choice.{if_then_else_}
 use Rattle.octets.specs.Words.{bytes16}
 use Rattle.message.specs.Datagrams.{udp, checksumField, datagram}
-use Rattle.message.specs.Written.{Wrote, summed}
+use Rattle.message.specs.Pieces.{Wrote, summed}
 use Rattle.message.specs.declared.datagram.Route.{Route}
 use Rattle.message.proofs.Writers.{row, patch, front}
 

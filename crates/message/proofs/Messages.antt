@@ -11,8 +11,9 @@ use Rattle.octets.specs.Words.{bytes16, bytes32}
 use Rattle.octets.specs.declared.number.MaybeNumber.{MaybeNumber}
 use Rattle.octets.specs.declared.number.MaybeNumber.the-variants.{None, Some}
 use Rattle.octets.specs.Items.{option}
-use Rattle.message.specs.Messages.{header, optionIf, addressOption, sizeOption, nameOption, who, given, last, message}
-use Rattle.message.specs.Written.{Short, listFits}
+use Rattle.message.specs.Messages.{header, optionIf, addressOption, sizeOption, nameOption, who, given, message}
+use Rattle.message.specs.Pieces.{last, Short}
+use Rattle.message.specs.Written.{listFits}
 use Rattle.message.specs.declared.message.Message.{Message}
 
 -- six octets are their list

@@ -8,7 +8,8 @@ use borrow.Author.Tests.{eq-eqb, ne-eqb, le-leb, lt-leb}
 use Rattle.clock.specs.Choice.{if_then_else_}
 use lib.ListN.{length, getD, drop}
 use Rattle.octets.specs.Words.{word16}
-use Rattle.message.specs.Datagrams.{onesAdd, onesSum, carriedIn, pseudoHeader}
+use Rattle.message.specs.Datagrams.{onesAdd, onesSum, pseudoHeader}
+use Rattle.message.specs.Pieces.{carriedIn}
 
 -- two octets more
 pub sum-two : (start : ℕ) (t : List ℕ) → 2 ≤ length t → onesSum start t ≡ onesSum (onesAdd start (word16 (getD t 0 0) (getD t 1 0))) (drop 2 t)

@@ -9,7 +9,7 @@ use Rattle.octets.specs.Runs.{over, placed, placedLength}
 use Rattle.octets.specs.Items.{option, optionBytes}
 use Rattle.octets.proofs.Runs.{over-length, over-front, over-then, placed-whole}
 use Rattle.octets.proofs.Items.{bytes-of}
-use Rattle.message.specs.Written.{Wrote}
+use Rattle.message.specs.Pieces.{Wrote}
 
 -- a run placed where it has room was written
 pub wrote : (at : ℕ) (out xs ys : List ℕ) (r : ℕ) → at + length out ≤ length xs → r ≡ placedLength out (drop at xs) → ys ≡ take at xs ++ placed out (drop at xs)

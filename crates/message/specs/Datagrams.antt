@@ -1,5 +1,5 @@
 -- UDP datagrams (RFC 768) and the Internet checksum (RFC 1071).
-use Prim.Native.Nat.{ℕ, _+_, _-_, _%_}
+use Prim.Native.Nat.{ℕ, _+_, _-_}
 use mathlib.Core.List.{List, [], _∷_, _++_}
 use lib.ListN.{length}
 use lib.Dec.{eqb, leb}
@@ -16,11 +16,6 @@ unfoldable pub onesSum : ℕ → List ℕ → ℕ
 onesSum start [] = start
 onesSum start (a ∷ []) = onesAdd start (word16 a 0)
 onesSum start (a ∷ b ∷ xs) = onesSum (onesAdd start (word16 a b)) xs
-
--- A plain sum of words with its carries added in: the number from 1 to 65,535 that it is congruent to modulo 65,535; 0
--- where it is 0.
-unfoldable pub carriedIn : ℕ → ℕ
-carriedIn sum = if eqb sum 0 then 0 else (sum - 1) % 65535 + 1
 
 -- The pseudo header: source, destination, zero, protocol 17, length of the datagram.
 abbrev pub pseudoHeader : ℕ → ℕ → ℕ → List ℕ

@@ -1,3 +1,4 @@
 pub mod Messages
 pub mod Datagrams
 pub mod Written
+pub mod Pieces

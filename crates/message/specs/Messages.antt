@@ -59,9 +59,5 @@ options m name list extra =
 abbrev pub framed : List ℕ → List ℕ → List ℕ
 framed head opts = head ++ (opts ++ (255 ∷ []))
 
--- The last options with the end mark.
-abbrev pub last : Bool → List ℕ → List ℕ → List ℕ
-last asks list extra = optionIf asks 55 list ++ (extra ++ (255 ∷ []))
-
 unfoldable pub message : Message → List ℕ → List ℕ → List ℕ → List ℕ
 message m name list extra = framed (header (m .id) (m .client) (m .hardware)) (options m name list extra)

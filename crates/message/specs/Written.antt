@@ -1,42 +1,22 @@
 -- What the writers leave in the buffer that they are lent.
-use Prim.Native.Nat.{ℕ, _+_, _≤_}
+use Prim.Native.Nat.{ℕ, _+_}
 use mathlib.Core.Bool.{Bool, true, not}
-use mathlib.Core.List.{List, _++_}
-use mathlib.Core.Path.{_≡_}
-use lib.ListN.{length, take, drop}
+use mathlib.Core.List.{List}
+use lib.ListN.{length}
 use lib.Dec.{leb, ltb}
 use Rattle.clock.specs.Choice.{if_then_else_}
-use Rattle.octets.specs.Words.{bytes16}
 use Rattle.octets.specs.Runs.{over}
 use Rattle.octets.specs.Items.{wholeItems}
 use Rattle.message.specs.Messages.{message}
-use Rattle.message.specs.Datagrams.{checksum, datagram}
+use Rattle.message.specs.Datagrams.{datagram}
 use Rattle.message.specs.declared.datagram.Route.{Route}
 use Rattle.message.specs.declared.message.Message.{Message}
 use Rattle.message.specs.declared.message.Answer.{Answer}
 use Rattle.message.specs.declared.message.Answer.the-variants.{Length, Refused}
 
--- `out` was written at `at` of xs, which ys is now, and r is the place after it.
-pub record Wrote (at : ℕ) (out xs : List ℕ) (r : ℕ) (ys : List ℕ) : Type 0 where
-  pub room : at + length out ≤ length xs
-  pub next : r ≡ at + length out
-  pub bytes : ys ≡ take at xs ++ over out (drop at xs)
-
--- What a writer that adds the checksum to a datagram of n octets leaves.
-unfoldable pub summed : Route → ℕ → List ℕ → List ℕ
-summed route n xs =
-    if route .offload then xs
-    else take 6 xs ++ over (bytes16 (checksum (route .source) (route .destination) (take n xs))) (drop 6 xs)
-
 -- Whether a request list of n codes is within its limit, if there is one.
 unfoldable pub listFits : Bool → ℕ → Bool
 listFits asks n = if asks then leb n 64 else true
-
--- Lists within their limits.
-pub record Short (m : Message) (name list extra : List ℕ) : Type 0 where
-  pub named : length name ≤ 63
-  pub listed : listFits (m .asks) (length list) ≡ true
-  pub extras : length extra ≤ 255
 
 -- A message's length, or a refusal: 3 name over 63 octets; 4 request list over 64, where there is one; 5 extra options
 -- over 255 octets or not whole items.

@@ -3,7 +3,7 @@ ghost use mathlib.Core.Path.{_≡_};
 ghost use Prim.Native.Nat.{_+_, _≤_};
 ghost use lib.ListN.{length};
 ghost use Rattle.message.specs.Messages.{header, headerRest};
-ghost use Rattle.message.specs.Written.{Wrote};
+ghost use Rattle.message.specs.Pieces.{Wrote};
 use crate::put::put_bytes;
 
 // Opcode, hardware type and length, hops; transaction id; seconds and flags; client address; then the rest.

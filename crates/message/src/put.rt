@@ -6,7 +6,7 @@ ghost use Prim.Native.Nat.{_+_, _≤_};
 ghost use lib.ListN.{length};
 ghost use Rattle.octets.specs.Items.{option};
 ghost use Rattle.message.specs.Messages.{optionIf, addressOption, sizeOption, nameOption};
-ghost use Rattle.message.specs.Written.{Wrote};
+ghost use Rattle.message.specs.Pieces.{Wrote};
 use octets::MaybeNumber;
 
 // Octets as they are.

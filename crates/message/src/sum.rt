@@ -3,7 +3,8 @@ ghost use mathlib.Core.Path.{_≡_};
 ghost use Prim.Native.Nat.{_≤_};
 ghost use lib.ListN.{length};
 ghost use Rattle.octets.specs.Words.{word16};
-ghost use Rattle.message.specs.Datagrams.{onesAdd, onesSum, carriedIn, complement, checksum, pseudoHeader};
+ghost use Rattle.message.specs.Datagrams.{onesAdd, onesSum, complement, checksum, pseudoHeader};
+ghost use Rattle.message.specs.Pieces.{carriedIn};
 
 // Two octets as a word.
 fn word(a: u8, b: u8) -> u16

@@ -51,7 +51,7 @@ firstWith code (o ∷ os) = if eqb (o .code) code then some (o .body) else first
 abbrev pub optionData : ℕ → List ℕ → Option (List ℕ)
 optionData code reply = firstWith code (optionsOf reply)
 
--- The data that lies at a place of a reply.
+-- For contracts within this crate, which no public one cites: the data that lies at a place of a reply.
 abbrev pub dataAt : List ℕ → Found → Option (List ℕ)
 dataAt reply Nothing = none
 dataAt reply (At start size) = some (take size (drop start reply))

@@ -3,7 +3,7 @@ use lib.Seq.{length-take-le}
 use borrow.Author.Needs.{needs}
 use Rattle.clock.proofs.Choices.{if-true, if-false}
 use Rattle.octets.specs.Words.{bytes16}
-use Rattle.message.specs.Written.{summed}
+use Rattle.message.specs.Pieces.{summed}
 use Rattle.message.proofs.datagram.put_checksum.Statement.{statement}
 use Rattle.message.proofs.datagram.put_checksum.Tie as tie
 

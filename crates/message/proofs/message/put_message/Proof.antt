@@ -4,7 +4,7 @@ use Prim.Native.Nat.{ℕ}
 use native.Mathlib.Omega.{arith}
 use lib.ListN.{length}
 use borrow.Author.Needs.{needs}
-use Rattle.message.specs.Written.{Wrote}
+use Rattle.message.specs.Pieces.{Wrote}
 use Rattle.message.proofs.Messages.{message-length, list-most, groups}
 use Rattle.message.proofs.Writers.{row}
 use Rattle.message.proofs.message.put_message.Statement.{statement}

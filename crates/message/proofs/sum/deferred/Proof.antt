@@ -1,5 +1,6 @@
 use Rattle.message.proofs.Sums.{sum-two, sum-one, sum-none, in-start, in-add}
-use Rattle.message.specs.Datagrams.{onesAdd, onesSum, carriedIn}
+use Rattle.message.specs.Datagrams.{onesAdd, onesSum}
+use Rattle.message.specs.Pieces.{carriedIn}
 use Rattle.octets.proofs.Runs.{part-tail}
 use lib.ListN.{length}
 use Prim.Native.Nat.{ℕ, _+_, _*_, _≤_}

@@ -1,10 +1,9 @@
 use Rattle.wire.proofs.Stores.{whole-over, whole-within}
 use Rattle.wire.specs.Stored.{got}
 use Rattle.clock.proofs.Choices.{if-true, if-false}
-use lib.ListN.{length-take}
+use lib.ListN.{length-take, length}
 use lib.Seq.{length-take-le}
 use borrow.Author.Tests.{not-true, not-false}
-use lib.ListN.{length}
 use native.Mathlib.Omega.{arith}
 use mathlib.Core.Path.{_≡_, refl, sym, _∙_}
 use borrow.Author.Needs.{needs}
