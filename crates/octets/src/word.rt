@@ -1,7 +1,11 @@
 // Words of 2 and 4 octets, the high one first.
 ghost use mathlib.Core.Path.{_≡_};
+ghost use mathlib.Core.List.{_++_};
+ghost use lib.ListN.{take, drop};
 ghost use Rattle.octets.specs.Words.{word16, word32, bytes16, bytes32, word16At, word32At};
+ghost use Rattle.octets.specs.Runs.{placed, placedLength};
 use crate::number::MaybeNumber;
+use crate::run::put_bytes_at;
 
 // Two octets as a number.
 pub fn join2(a: u8, b: u8) -> u32
@@ -60,4 +64,21 @@ pub fn read_u32(s: &[u8], at: usize) -> MaybeNumber
         return MaybeNumber::None;
     }
     MaybeNumber::Some(join4(s[at], s[at + 1], s[at + 2], s[at + 3]))
+}
+
+// Writes the low 16 bits of a number as two octets at `at` of buf, if they fit there, and answers how many octets were
+// written.
+pub fn write_u16(buf: &mut [u8], at: usize, v: u32) -> usize
+    ensures { λ r. ⌜ (r ≡ placedLength (bytes16 v) (drop at (now (buf .entry)))) × (now (buf .exit) ≡ take at (now (buf .entry)) ++ placed (bytes16 v) (drop at (now (buf .entry)))) ⌝ }
+{
+    let octets = split2(v);
+    put_bytes_at(buf, at, &octets)
+}
+
+// Writes a number as four octets at `at` of buf, if they fit there, and answers how many octets were written.
+pub fn write_u32(buf: &mut [u8], at: usize, v: u32) -> usize
+    ensures { λ r. ⌜ (r ≡ placedLength (bytes32 v) (drop at (now (buf .entry)))) × (now (buf .exit) ≡ take at (now (buf .entry)) ++ placed (bytes32 v) (drop at (now (buf .entry)))) ⌝ }
+{
+    let octets = split4(v);
+    put_bytes_at(buf, at, &octets)
 }

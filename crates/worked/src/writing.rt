@@ -11,11 +11,29 @@ use message::write_message;
 use octets::MaybeNumber;
 
 pub fn examples() {
+    words();
     sums();
     longest();
     refusals();
     full_sum();
     rest_kept();
+}
+
+// RFC 791, appendix B: the most significant octet first. A word that does not fit is not written.
+fn words() {
+    let mut buf = [0u8; 6];
+    octets::word::write_u32(&mut buf, 2, 0x0a000007);
+    octets::word::write_u16(&mut buf, 0, 0x10110);
+    line(
+        b"octets written of a word over the end",
+        octets::word::write_u16(&mut buf, 5, 1) as u64,
+    );
+    crate::number(
+        b"10.0.0.7, written and read",
+        octets::word::read_u32(&buf, 2),
+    );
+    crate::number(b"65,808 in 16 bits", octets::word::read_u16(&buf, 0));
+    crate::number(b"a word over the end", octets::word::read_u16(&buf, 5));
 }
 
 // RFC 1071, section 3: the words 0001, f203, f4f5 and f6f7 sum to ddf2, 56,818, and an odd octet is the high one of a
