@@ -63,7 +63,7 @@ fn list_fits(asks: bool, n: usize) -> bool
     true
 }
 
-// The length of an option that may be absent.
+// The length of option 55, where there is one.
 fn list_len(asks: bool, list: &[u8]) -> usize
     requires { ⌜ listFits asks (length (now list)) ≡ true ⌝ }
     ensures { λ r. ⌜ r ≡ length (optionIf asks 55 (now (list .entry))) ⌝ }
@@ -74,6 +74,7 @@ fn list_len(asks: bool, list: &[u8]) -> usize
     0
 }
 
+// The length of option 12, none where the name is empty.
 fn name_len(name: &[u8]) -> usize
     requires { ⌜ length (now name) ≤ 63 ⌝ }
     ensures { λ r. ⌜ r ≡ length (nameOption (now (name .entry))) ⌝ }
@@ -84,6 +85,7 @@ fn name_len(name: &[u8]) -> usize
     name.len() + 2
 }
 
+// The length of an option that holds an address, where there is one.
 fn address_len(kind: u8, address: MaybeNumber) -> usize
     ensures { λ r. ⌜ r ≡ length (addressOption kind address) ⌝ }
 {
@@ -93,6 +95,7 @@ fn address_len(kind: u8, address: MaybeNumber) -> usize
     }
 }
 
+// The length of an option that holds 16 bits, where they are given.
 fn size_len(kind: u8, size: MaybeNumber) -> usize
     ensures { λ r. ⌜ r ≡ length (sizeOption kind size) ⌝ }
 {
@@ -117,6 +120,7 @@ fn total(m: Message, name: &[u8], list: &[u8], extra: &[u8]) -> usize
     253 + named + told + asked + extra.len()
 }
 
+// The length of options 50, 54 and 57, where given.
 fn given_len(requested: MaybeNumber, server: MaybeNumber, size: MaybeNumber) -> usize
     ensures { λ r. ⌜ (r ≡ length (given requested server size)) × (r ≤ 16) ⌝ }
 {

@@ -102,6 +102,7 @@ pub fn option_octet(reply: &[u8], code: u8, index: usize) -> MaybeNumber
     }
 }
 
+// The octet at an index of some data.
 fn octet_in(body: &[u8], index: usize) -> MaybeNumber
     ensures { λ r. ⌜ r ≡ octetOf index (some (now (body .entry))) ⌝ }
 {
@@ -111,6 +112,7 @@ fn octet_in(body: &[u8], index: usize) -> MaybeNumber
     MaybeNumber::None
 }
 
+// An octet as a number that is there.
 fn some_octet(octet: u8) -> MaybeNumber
     ensures { λ r. ⌜ r ≡ MaybeNumber.Some octet ⌝ }
 {
@@ -130,6 +132,7 @@ pub fn message_type(reply: &[u8]) -> MaybeNumber
     }
 }
 
+// A message type in some data.
 fn type_in(body: &[u8]) -> MaybeNumber
     ensures { λ r. ⌜ r ≡ typeOf (some (now (body .entry))) ⌝ }
 {
@@ -175,6 +178,7 @@ pub fn router(reply: &[u8]) -> MaybeNumber
     unicast_only(option_address(reply, OPT_ROUTER))
 }
 
+// An address, if there is one and it is unicast.
 fn unicast_only(address: MaybeNumber) -> MaybeNumber
     ensures { λ r. ⌜ r ≡ ifUnicast address ⌝ }
 {
