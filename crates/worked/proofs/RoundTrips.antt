@@ -1,5 +1,5 @@
 -- What the writer of messages wrote, the reader of replies reads: every option, in order. Assumes nothing.
-use Prim.Native.Nat.{ℕ, _<_}
+use Prim.Native.Nat.{ℕ, _+_, _*_, _/_, _%_, _≤_, _<_}
 use mathlib.Core.Bool.{Bool, true, false}
 use mathlib.Core.Path.{_≡_, refl, ap, _∙_}
 use mathlib.Core.List.{List, [], _∷_, _++_, append-assoc}
@@ -8,12 +8,13 @@ use native.Mathlib.Omega.{arith}
 use lib.ListN.{length, length-append}
 use lib.Seq.{drop-at}
 use Rattle.clock.specs.Choice.{if_then_else_}
-use Rattle.octets.specs.Words.{bytes16, bytes32}
+use borrow.Author.Tests.{le-leb}
+use Rattle.octets.specs.Words.{word32, word32At, bytes16, bytes32}
 use Rattle.octets.specs.Items.{option}
 use Rattle.octets.specs.declared.number.MaybeNumber.{MaybeNumber}
 use Rattle.octets.specs.declared.number.MaybeNumber.the-variants.{None, Some}
 use Rattle.wire.specs.Options.{DhcpOption, optionsFrom, optionsOf, optionData, firstWith}
-use Rattle.wire.specs.Readings.{messageType, typeOf}
+use Rattle.wire.specs.Readings.{messageType, typeOf, transactionId}
 use Rattle.wire.proofs.Walks.{walk-option}
 use Rattle.message.specs.Messages.{message, header, optionIf, addressOption, sizeOption, nameOption, given, options}
 use Rattle.message.specs.declared.message.Message.{Message}
@@ -50,6 +51,14 @@ flatten a b c d e f g x y = simp append-assoc
 abbrev row : Message → List ℕ → List ℕ → List ℕ → List ℕ
 row m name list rest =
     option 53 (m .kind ∷ []) ++ (option 61 (1 ∷ m .hardware) ++ (nameOption name ++ (addressOption 50 (m .requested) ++ (addressOption 54 (m .server) ++ (sizeOption 57 (m .size) ++ (optionIf (m .asks) 55 list ++ rest))))))
+
+-- A number's four octets, joined.
+joined : (v : ℕ) → v < 4294967296 → word32 (v / 16777216 % 256) (v / 65536 % 256) (v / 256 % 256) (v % 256) ≡ v
+joined v h =
+    let a : v / 16777216 % 256 * 256 + v / 65536 % 256 ≡ v / 65536 = omega arith in
+    let b : v / 65536 * 256 + v / 256 % 256 ≡ v / 256 = omega arith in
+    let c : v / 256 * 256 + v % 256 ≡ v = omega arith in
+    ap (λ (n : ℕ). (n * 256 + v / 256 % 256) * 256 + v % 256) a ∙ ap (λ (n : ℕ). n * 256 + v % 256) b ∙ c
 
 -- All of them.
 module _ (m : Message) (name list extra : List ℕ) where
@@ -92,3 +101,10 @@ module _ (m : Message) (name list extra : List ℕ) where
   pub client-read : length (m .hardware) ≡ 6 → optionData 61 (message m name list extra) ≡ some (1 ∷ m .hardware)
   unfolding firstWith if_then_else_
   client-read six = ap (firstWith 61) (round-trip six)
+
+  -- The header's id is read as it was given.
+  pub id-read : m .id < 4294967296 → transactionId (message m name list extra) ≡ Some (m .id)
+  unfolding message word32At if_then_else_
+  id-read h =
+      let room : 4 + 4 ≤ length (message m name list extra) = omega arith in
+      simp (le-leb _ _ room) (ap Some (joined (m .id) h))
