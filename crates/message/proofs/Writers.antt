@@ -54,10 +54,6 @@ none at xs h = record {
   bytes = sym (take-append-drop at xs);
 }
 
--- a writer keeps the length
-pub kept : {at r : ℕ} {out xs ys : List ℕ} → Wrote at out xs r ys → length ys ≡ length xs
-kept {at} {r} {out} {xs} {ys} w = wrote-length at out xs ys (w .room) (w .bytes)
-
 patch-list : (p old q w tail : List ℕ) → length w ≡ length old → take (length p) ((p ++ (old ++ q)) ++ tail) ++ over w (drop (length p) ((p ++ (old ++ q)) ++ tail)) ≡ (p ++ (w ++ q)) ++ tail
 unfolding over
 patch-list p old q w tail e = simp (append-assoc, take-append-seam, drop-append-seam, drop-at old (q ++ tail) (length w) (sym e))

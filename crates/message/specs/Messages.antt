@@ -6,7 +6,7 @@ use mathlib.Core.List.{List, [], _∷_, _++_}
 use lib.ListN.{replicate}
 use Rattle.clock.specs.Choice.{if_then_else_}
 use Rattle.octets.specs.Words.{bytes16, bytes32}
-use Rattle.octets.specs.Items.{option}
+use Rattle.octets.specs.Items.{cookie, option}
 use Rattle.octets.specs.declared.number.MaybeNumber.{MaybeNumber}
 use Rattle.octets.specs.declared.number.MaybeNumber.the-variants.{None, Some}
 use Rattle.message.specs.declared.message.Message.{Message}
@@ -14,7 +14,7 @@ use Rattle.message.specs.declared.message.Message.{Message}
 -- The fixed part, with the magic cookie: 240 octets. Fields that a client does not set are zero. Its second half: yiaddr,
 -- siaddr and giaddr; chaddr, which is the hardware address and 10 octets; sname, 64; file, 128; the cookie.
 abbrev pub headerRest : List ℕ → List ℕ
-headerRest hardware = replicate 12 0 ++ (hardware ++ (replicate (10 + 64 + 128) 0 ++ (99 ∷ 130 ∷ 83 ∷ 99 ∷ [])))
+headerRest hardware = replicate 12 0 ++ (hardware ++ (replicate (10 + 64 + 128) 0 ++ cookie))
 
 -- Before that: op BOOTREQUEST, htype Ethernet, hlen, hops; xid; secs and flags; ciaddr.
 abbrev pub header : ℕ → ℕ → List ℕ → List ℕ

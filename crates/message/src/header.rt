@@ -37,7 +37,7 @@ fn put_rest(buf: &mut [u8], at: usize, hardware: [u8; 6]) -> usize
 {
     let addresses = [0u8; 12];
     let zeros = [0u8; 202];
-    let cookie = [99u8, 130, 83, 99];
+    let cookie = octets::item::MAGIC_NUMBER;
     let n1 = put_bytes(buf, at, &addresses);
     let n2 = put_bytes(buf, n1, &hardware);
     let n3 = put_bytes(buf, n2, &zeros);

@@ -34,17 +34,24 @@ pub enum Answer {
     Refused(u32),
 }
 
+// Limits of document 01's numbers 3, 4 and 5.
+const NAME_LIMIT: usize = 63;
+
+const LIST_LIMIT: usize = 64;
+
+const EXTRA_LIMIT: usize = 255;
+
 // The length of a message, before it is written.
 pub fn message_len(m: Message, name: &[u8], list: &[u8], extra: &[u8]) -> Answer
     ensures { λ r. ⌜ r ≡ measured m (now (name .entry)) (now (list .entry)) (now (extra .entry)) ⌝ }
 {
-    if 63 < name.len() {
+    if NAME_LIMIT < name.len() {
         return Answer::Refused(3);
     }
     if !list_fits(m.asks, list.len()) {
         return Answer::Refused(4);
     }
-    if 255 < extra.len() {
+    if EXTRA_LIMIT < extra.len() {
         return Answer::Refused(5);
     }
     if !octets::item::whole_items(extra) {
@@ -58,7 +65,7 @@ fn list_fits(asks: bool, n: usize) -> bool
     ensures { λ r. ⌜ r ≡ listFits asks n ⌝ }
 {
     if asks {
-        return n <= 64;
+        return n <= LIST_LIMIT;
     }
     true
 }

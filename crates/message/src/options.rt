@@ -14,6 +14,19 @@ use crate::put::put_option;
 use crate::put::put_size;
 use octets::MaybeNumber;
 
+// Codes of the options that are written here (RFC 2132, sections 9.1 to 9.14).
+const OPT_REQUESTED_IP: u8 = 50;
+
+const OPT_DHCP_MESSAGE_TYPE: u8 = 53;
+
+const OPT_SERVER_IDENTIFIER: u8 = 54;
+
+const OPT_PARAMETER_REQUEST_LIST: u8 = 55;
+
+const OPT_MAX_DHCP_MESSAGE_SIZE: u8 = 57;
+
+const OPT_CLIENT_ID: u8 = 61;
+
 // 1, for Ethernet, then the hardware address.
 fn client_id(hardware: [u8; 6]) -> [u8; 7]
     ensures { λ r. ⌜ r ≡ 1 ∷ hardware ⌝ }
@@ -37,8 +50,8 @@ pub(crate) fn put_who(buf: &mut [u8], at: usize, kind: u8, hardware: [u8; 6], na
 {
     let body = [kind];
     let id = client_id(hardware);
-    let n1 = put_option(buf, at, 53, &body);
-    let n2 = put_option(buf, n1, 61, &id);
+    let n1 = put_option(buf, at, OPT_DHCP_MESSAGE_TYPE, &body);
+    let n2 = put_option(buf, n1, OPT_CLIENT_ID, &id);
     put_name(buf, n2, name)
 }
 
@@ -54,9 +67,9 @@ pub(crate) fn put_given(
     ensures { λ r. ⌜ Wrote at (given requested server size) (now (buf .entry)) r (now (buf .exit)) ⌝ }
     ensures { λ r. ⌜ r ≡ at + (length (addressOption 50 requested) + length (addressOption 54 server) + length (sizeOption 57 size)) ⌝ }
 {
-    let n1 = put_address(buf, at, 50, requested);
-    let n2 = put_address(buf, n1, 54, server);
-    put_size(buf, n2, 57, size)
+    let n1 = put_address(buf, at, OPT_REQUESTED_IP, requested);
+    let n2 = put_address(buf, n1, OPT_SERVER_IDENTIFIER, server);
+    put_size(buf, n2, OPT_MAX_DHCP_MESSAGE_SIZE, size)
 }
 
 // What is asked for: 55, where given; then the extra options, and the end mark.
@@ -66,7 +79,7 @@ pub(crate) fn put_last(buf: &mut [u8], at: usize, asks: bool, list: &[u8], extra
     ensures { λ r. ⌜ r ≡ at + (length (optionIf asks 55 (now (list .entry))) + length (now (extra .entry)) + 1) ⌝ }
 {
     let end = [255u8];
-    let n1 = put_if(buf, at, asks, 55, list);
+    let n1 = put_if(buf, at, asks, OPT_PARAMETER_REQUEST_LIST, list);
     let n2 = put_bytes(buf, n1, extra);
     put_bytes(buf, n2, &end)
 }

@@ -9,6 +9,8 @@ ghost use Rattle.message.specs.Messages.{optionIf, addressOption, sizeOp
 ghost use Rattle.message.specs.Pieces.{Wrote};
 use octets::MaybeNumber;
 
+const OPT_HOST_NAME: u8 = 12;
+
 // Octets as they are.
 pub(crate) fn put_bytes(buf: &mut [u8], at: usize, body: &[u8]) -> usize
     requires { ⌜ at + length (now body) ≤ length (now buf) ⌝ }
@@ -72,5 +74,5 @@ pub(crate) fn put_name(buf: &mut [u8], at: usize, name: &[u8]) -> usize
     if name.len() == 0 {
         return at;
     }
-    put_option(buf, at, 12, name)
+    put_option(buf, at, OPT_HOST_NAME, name)
 }

@@ -7,6 +7,10 @@ use lib.ListN.{length}
 use lib.Dec.{leb}
 use Rattle.clock.specs.Choice.{if_then_else_}
 
+-- The magic cookie, with which the options field of a DHCP message begins: 99, 130, 83, 99 (RFC 2131, section 3).
+abbrev pub cookie : List ℕ
+cookie = 99 ∷ 130 ∷ 83 ∷ 99 ∷ []
+
 -- An option on the wire.
 abbrev pub option : ℕ → List ℕ → List ℕ
 option kind body = kind ∷ length body ∷ body

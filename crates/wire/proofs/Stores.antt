@@ -118,12 +118,6 @@ pub record Sound (store : Store) : Type 0 where
   pub size : length (store .bytes) ≡ 256
   pub whole : wholeStore store ≡ true
 
-sound-within : (store : Store) → wholeStore store ≡ true → store .len ≤ 256
-sound-within store e = elim (decLe (store .len) 256) [
-  | yes h ↦ h
-  | no h ↦ let e' = whole-over store (omega arith) in let z : _≡_ {A = ℕ} 0 1 = cc in omega arith
-]
-
 used-with : (store : Store) (kind : ℕ) (body : List ℕ) → store .len ≤ length (store .bytes) → used (withOption store kind body) ≡ used store ++ option kind body
 unfolding over
 used-with store kind body h =

@@ -141,8 +141,3 @@ walk-option k d r h g =
     let body : take (length d) (drop (0 + 2) s) ≡ d = take-append-seam d r in
     let rest : drop (0 + 2 + length d) s ≡ r = ap (λ (n : ℕ). drop n s) e ∙ drop-append-seam d r in
     step-list s 0 s refl ∙ ap (after s 0) (head-option k d r h g) ∙ (λ i. record { code = k; body = body i } ∷ optionsFrom 0 (rest i))
-
--- the end mark
-pub walk-end : optionsFrom 0 (255 ∷ []) ≡ []
-unfolding optionsFrom headItem if_then_else_
-walk-end = refl

@@ -37,9 +37,13 @@ optionsFrom zero (code ∷ xs) =
       | Whole code size ↦ record { code = code; body = take size (drop 1 xs) } ∷ optionsFrom (suc size) xs
     ]
 
+-- What precedes the options: a header of 236 octets, and the magic cookie.
+abbrev pub headerLength : ℕ
+headerLength = 236 + 4
+
 -- The options of a reply, in order.
 abbrev pub optionsOf : List ℕ → List DhcpOption
-optionsOf reply = optionsFrom 0 (drop 240 reply)
+optionsOf reply = optionsFrom 0 (drop headerLength reply)
 
 -- The data of the first option with a code.
 unfoldable pub firstWith : ℕ → List DhcpOption → Option (List ℕ)

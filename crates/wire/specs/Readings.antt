@@ -9,24 +9,21 @@ use Rattle.clock.specs.Choice.{if_then_else_}
 use Rattle.octets.specs.Words.{word32, word32At}
 use Rattle.octets.specs.Addresses.{unicast}
 use Rattle.octets.specs.Runs.{sameBytes}
+use Rattle.octets.specs.Items.{cookie}
 use Rattle.octets.specs.declared.number.MaybeNumber.{MaybeNumber}
 use Rattle.octets.specs.declared.number.MaybeNumber.the-variants.{None, Some}
-use Rattle.wire.specs.Options.{optionData}
+use Rattle.wire.specs.Options.{headerLength, optionData}
 use Rattle.wire.specs.declared.reply.Addresses.{Addresses}
 use Rattle.wire.specs.declared.reply.Length.{Length}
 use Rattle.wire.specs.declared.reply.Length.the-variants.{Absent, Octets}
 use Rattle.wire.specs.declared.reply.Checked.{Checked}
 use Rattle.wire.specs.declared.reply.Checked.the-variants.{Passes, PassedOver}
 
--- The magic cookie: 99, 130, 83, 99 (RFC 2131, section 3).
-abbrev pub cookie : List ℕ
-cookie = 99 ∷ 130 ∷ 83 ∷ 99 ∷ []
-
 -- The header's first checks, with the number of a reply that is passed over: 20 under 240 octets; 21 opcode not 2,
 -- hardware type not 1, hardware length not 6, or no magic cookie.
 unfoldable pub headerCheck : List ℕ → Checked
 headerCheck reply =
-    if ltb (length reply) 240 then PassedOver 20
+    if ltb (length reply) headerLength then PassedOver 20
     else if sameBytes (take 3 reply) (2 ∷ 1 ∷ 6 ∷ []) then (if sameBytes (take 4 (drop 236 reply)) cookie then Passes else PassedOver 21)
     else PassedOver 21
 

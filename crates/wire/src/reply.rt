@@ -6,6 +6,7 @@ ghost use mathlib.Core.Option.{some};
 ghost use mathlib.Core.List.{List, [], _∷_, _++_};
 ghost use Prim.Native.Nat.{ℕ};
 use crate::options::Found;
+use crate::options::OPTIONS;
 use crate::options::find;
 use octets::MaybeNumber;
 
@@ -16,8 +17,6 @@ const OPT_DHCP_MESSAGE_TYPE: u8 = 53;
 
 // Opcode 2 (a reply), hardware type 1 and length 6 (Ethernet).
 const REPLY_START: [u8; 3] = [2, 1, 6];
-
-const MAGIC_NUMBER: [u8; 4] = [99, 130, 83, 99];
 
 // Whether a reply passes a check, or is passed over, and under which number.
 pub enum Checked {
@@ -41,14 +40,14 @@ pub struct Addresses {
 pub fn check_header(reply: &[u8]) -> Checked
     ensures { λ r. ⌜ r ≡ headerCheck (now (reply .entry)) ⌝ }
 {
-    if reply.len() < 240 {
+    if reply.len() < OPTIONS {
         return Checked::PassedOver(20);
     }
     let start = REPLY_START;
     if !octets::run::same(&reply[..3], &start) {
         return Checked::PassedOver(21);
     }
-    let magic = MAGIC_NUMBER;
+    let magic = octets::item::MAGIC_NUMBER;
     if !octets::run::same(&reply[236..240], &magic) {
         return Checked::PassedOver(21);
     }

@@ -1,5 +1,5 @@
 -- What the writer of messages wrote, the reader of replies reads: every option, in order. Assumes nothing.
-use Prim.Native.Nat.{ℕ, _+_, _*_, _/_, _%_, _≤_, _<_}
+use Prim.Native.Nat.{ℕ, _+_, _≤_, _<_}
 use mathlib.Core.Bool.{Bool, true, false}
 use mathlib.Core.Path.{_≡_, refl, ap, _∙_}
 use mathlib.Core.List.{List, [], _∷_, _++_, append-assoc}
@@ -9,8 +9,9 @@ use lib.ListN.{length, length-append}
 use lib.Seq.{drop-at}
 use Rattle.clock.specs.Choice.{if_then_else_}
 use borrow.Author.Tests.{le-leb}
-use Rattle.octets.specs.Words.{word32, word32At, bytes16, bytes32}
+use Rattle.octets.specs.Words.{word32At, bytes16, bytes32}
 use Rattle.octets.specs.Items.{option}
+use Rattle.octets.proofs.Words.{joined32}
 use Rattle.octets.specs.declared.number.MaybeNumber.{MaybeNumber}
 use Rattle.octets.specs.declared.number.MaybeNumber.the-variants.{None, Some}
 use Rattle.wire.specs.Options.{DhcpOption, optionsFrom, optionsOf, optionData, firstWith}
@@ -51,14 +52,6 @@ flatten a b c d e f g x y = simp append-assoc
 abbrev row : Message → List ℕ → List ℕ → List ℕ → List ℕ
 row m name list rest =
     option 53 (m .kind ∷ []) ++ (option 61 (1 ∷ m .hardware) ++ (nameOption name ++ (addressOption 50 (m .requested) ++ (addressOption 54 (m .server) ++ (sizeOption 57 (m .size) ++ (optionIf (m .asks) 55 list ++ rest))))))
-
--- A number's four octets, joined.
-joined : (v : ℕ) → v < 4294967296 → word32 (v / 16777216 % 256) (v / 65536 % 256) (v / 256 % 256) (v % 256) ≡ v
-joined v h =
-    let a : v / 16777216 % 256 * 256 + v / 65536 % 256 ≡ v / 65536 = omega arith in
-    let b : v / 65536 * 256 + v / 256 % 256 ≡ v / 256 = omega arith in
-    let c : v / 256 * 256 + v % 256 ≡ v = omega arith in
-    ap (λ (n : ℕ). (n * 256 + v / 256 % 256) * 256 + v % 256) a ∙ ap (λ (n : ℕ). n * 256 + v % 256) b ∙ c
 
 -- All of them.
 module _ (m : Message) (name list extra : List ℕ) where
@@ -107,4 +100,4 @@ module _ (m : Message) (name list extra : List ℕ) where
   unfolding message word32At if_then_else_
   id-read h =
       let room : 4 + 4 ≤ length (message m name list extra) = omega arith in
-      simp (le-leb _ _ room) (ap Some (joined (m .id) h))
+      simp (le-leb _ _ room) (ap Some (joined32 (m .id) h))
