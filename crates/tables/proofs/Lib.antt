@@ -1,0 +1,5 @@
+pub mod Lists
+pub mod Loops
+pub mod Made
+pub mod Leases
+pub mod Additions

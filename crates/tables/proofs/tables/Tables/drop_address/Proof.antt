@@ -1,0 +1,45 @@
+use Rattle.tables.specs.Manual.{dropAddress, changedAddrs}
+use Rattle.clock.proofs.Choices.{if-true, if-false}
+use mathlib.Core.Bool.{not}
+use mathlib.Core.Path.{sym, ap, _∙_}
+use borrow.Author.Needs.{needs}
+use Rattle.tables.proofs.tables.Tables.drop_address.Statement.{statement}
+use Rattle.tables.proofs.tables.Tables.drop_address.Tie as tie
+use Rattle.tables.proofs.tables.Tables.drop_address.Reads as reads
+use Rattle.tables.proofs.tables.Tables.drop_address.Lts as lts
+use Rattle.tables.proofs.address.AddrTable.kept.Reads as kept-reads
+use Rattle.tables.proofs.tables.Tables.admits.Reads as admits-reads
+use Rattle.tables.proofs.tables.Tables.refused.Reads as refused-reads
+use Rattle.tables.proofs.tables.Tables.with_addrs.Reads as with-addrs-reads
+
+-- src/manual.rt:51:13
+admits-requires : tie.Need-admits-requires
+admits-requires c κs = search needs
+
+-- src/manual.rt:52:13
+refused-requires : tie.Need-refused-requires
+refused-requires c κs = search needs
+
+-- src/manual.rt:52:13
+returns : tie.Need-returns
+unfolding dropAddress
+returns c = if-true _ (ap not (sym (c .before .before .admits .ensures)) ∙ c .before .if1 .taken) (c .refused .ensures)
+
+-- src/manual.rt:55:13
+kept-requires : tie.Need-kept-requires
+kept-requires c κs = search needs
+
+-- src/manual.rt:56:9
+with-addrs-requires : tie.Need-with-addrs-requires
+with-addrs-requires c κs = search needs
+
+-- src/manual.rt:48:5
+returns-2 : tie.Need-returns-2
+unfolding dropAddress
+returns-2 c =
+    if-false _ (ap not (sym (c .before .before .before .before .admits .ensures)) ∙ c .before .before .before .if1 .left) (c .with-addrs .ensures ∙ ap (changedAddrs (c .before .before .before .before .before .args .self)) (c .before .kept .ensures))
+
+pub drop-address-spec : {M : Type 1} → statement M
+drop-address-spec =
+    tie.close
+    (tie.spec admits-requires refused-requires returns kept-requires with-addrs-requires returns-2)

@@ -1,0 +1,6 @@
+pub mod Entries
+pub mod Tables
+pub mod Applied
+pub mod Manual
+pub mod Changes
+pub mod Lookups

@@ -1,0 +1,77 @@
+-- The manual calls. Document 01: "the tables take manual addresses and manual routes, and drop manual ones (all with that
+-- address and prefix, for a route that router too; none there is no refusal), without touching config_generation".
+-- Refused, in this order: 9 tables not whole, or the prefix over 32; 10 router not unicast; 11 table full.
+use Prim.Native.Nat.{ℕ}
+use mathlib.Core.Bool.{Bool, true, false, not, _&&_, _||_}
+use mathlib.Core.List.{List, [], _∷_, _++_}
+use lib.Dec.{eqb}
+use Rattle.clock.specs.Choice.{if_then_else_}
+use Rattle.octets.specs.Addresses.{unicast}
+use Rattle.tables.specs.Entries.{only, full}
+use Rattle.tables.specs.Tables.{addrTable, routeTable, addrsOf, routesOf, prefixFits, wholeTables}
+use Rattle.tables.specs.declared.address.IfaceAddr.{IfaceAddr}
+use Rattle.tables.specs.declared.route.Route.{Route}
+use Rattle.tables.specs.declared.address.AddrTable.{AddrTable}
+use Rattle.tables.specs.declared.route.RouteTable.{RouteTable}
+use Rattle.tables.specs.declared.tables.Tables.{Tables}
+use Rattle.tables.specs.declared.manual.Outcome.{Outcome}
+use Rattle.tables.specs.declared.manual.Outcome.the-variants.{Done, Refused}
+use Rattle.tables.specs.declared.manual.Changed.{Changed}
+
+-- A refusal leaves the tables as they came.
+abbrev pub refused : Tables → ℕ → Changed
+refused t number = record { tables = t; outcome = Refused number }
+
+-- The tables with another one in the place of one of the two, and nothing else changed.
+abbrev pub changedAddrs : Tables → AddrTable → Changed
+changedAddrs t table = record {
+  tables = record { «ip_addrs» = table; routes = t .routes; «config_generation» = t .«config_generation» };
+  outcome = Done;
+}
+
+abbrev pub changedRoutes : Tables → RouteTable → Changed
+changedRoutes t table = record {
+  tables = record { «ip_addrs» = t .«ip_addrs»; routes = table; «config_generation» = t .«config_generation» };
+  outcome = Done;
+}
+
+-- An entry put in by hand.
+abbrev pub manualAddr : ℕ → ℕ → IfaceAddr
+manualAddr address prefix = record { address = address; prefix = prefix; dhcp = false }
+
+abbrev pub manualRoute : ℕ → ℕ → ℕ → Route
+manualRoute network prefix router = record { network = network; prefix = prefix; router = router; dhcp = false }
+
+-- Whether an entry stays when those with an address and prefix are dropped: DHCP's does, and any other one does.
+abbrev pub addrStays : ℕ → ℕ → IfaceAddr → Bool
+addrStays address prefix a = a .dhcp || not (eqb (a .address) address && eqb (a .prefix) prefix)
+
+abbrev pub routeStays : ℕ → ℕ → ℕ → Route → Bool
+routeStays network prefix router a = a .dhcp || not ((eqb (a .network) network && eqb (a .prefix) prefix) && eqb (a .router) router)
+
+-- What every manual call tests first.
+unfoldable pub admitted : Tables → ℕ → Bool
+admitted t prefix = if wholeTables t then prefixFits prefix else false
+
+unfoldable pub addAddress : Tables → ℕ → ℕ → Changed
+addAddress t address prefix =
+    if not (admitted t prefix) then refused t 9
+    else if full (addrsOf (t .«ip_addrs»)) then refused t 11
+    else changedAddrs t (addrTable (addrsOf (t .«ip_addrs») ++ (manualAddr address prefix ∷ [])))
+
+unfoldable pub dropAddress : Tables → ℕ → ℕ → Changed
+dropAddress t address prefix =
+    if not (admitted t prefix) then refused t 9
+    else changedAddrs t (addrTable (only (addrStays address prefix) (addrsOf (t .«ip_addrs»))))
+
+unfoldable pub addRoute : Tables → ℕ → ℕ → ℕ → Changed
+addRoute t network prefix router =
+    if not (admitted t prefix) then refused t 9
+    else if not (unicast router) then refused t 10
+    else if full (routesOf (t .routes)) then refused t 11
+    else changedRoutes t (routeTable (routesOf (t .routes) ++ (manualRoute network prefix router ∷ [])))
+
+unfoldable pub dropRoute : Tables → ℕ → ℕ → ℕ → Changed
+dropRoute t network prefix router =
+    if not (admitted t prefix) then refused t 9
+    else changedRoutes t (routeTable (only (routeStays network prefix router) (routesOf (t .routes))))
