@@ -16,12 +16,13 @@ use Rattle.tables.specs.declared.route.Route.{Route}
 use Rattle.tables.specs.declared.route.RouteTable.{RouteTable}
 use Rattle.tables.specs.declared.apply.MaybeCidr.{MaybeCidr}
 use Rattle.tables.specs.declared.apply.MaybeCidr.the-variants.{Absent, Cidr}
+use Rattle.tables.proofs.Lists.{entered-none}
 use Rattle.tables.proofs.Made.{addrs-of, routes-of}
 
 module _ (t kept : AddrTable) (new : MaybeCidr) (same : Bool) (s : same ≡ false) (k : kept ≡ addrTable (only addrIsManual (addrsOf t))) where
   pub address-gone : new ≡ Absent → kept ≡ appliedAddrs t new same
-  unfolding appliedAddrs entered
-  address-gone e = if-false _ s (rw e k)
+  unfolding appliedAddrs
+  address-gone e = if-false _ s (rw e (k ∙ ap addrTable (sym (entered-none (only addrIsManual (addrsOf t))))))
 
   pub address-came : (r : AddrTable) (a p : ℕ) → new ≡ Cidr a p → r ≡ addrTable (entered (addrsOf kept) (leasedAddrs (Cidr a p))) → r ≡ appliedAddrs t new same
   unfolding appliedAddrs
@@ -31,8 +32,8 @@ module _ (t kept : AddrTable) (new : MaybeCidr) (same : Bool) (s : same ≡ fals
 
 module _ (t kept : RouteTable) (new : MaybeNumber) (same : Bool) (s : same ≡ false) (k : kept ≡ routeTable (only routeIsManual (routesOf t))) where
   pub router-gone : new ≡ None → kept ≡ appliedRoutes t new same
-  unfolding appliedRoutes entered leasedRoutes
-  router-gone e = if-false _ s (rw e k)
+  unfolding appliedRoutes leasedRoutes
+  router-gone e = if-false _ s (rw e (k ∙ ap routeTable (sym (entered-none (only routeIsManual (routesOf t))))))
 
   pub router-came : (r : RouteTable) (a : ℕ) → new ≡ Some a → r ≡ routeTable (entered (routesOf kept) (leasedRoutes (Some a))) → r ≡ appliedRoutes t new same
   unfolding appliedRoutes

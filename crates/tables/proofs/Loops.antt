@@ -26,7 +26,7 @@ set-next z x xs h =
 pub one-more : {A : Type 0} (z x : A) (xs rows : List A) (n : ℕ) → rows ≡ inPlaces z xs → n ≡ length xs → n < places
     → (set rows n x ≡ inPlaces z (entered xs (x ∷ []))) × (n + 1 ≡ length (entered xs (x ∷ [])))
 one-more z x xs rows n e l h =
-    let room : entered xs (x ∷ []) ≡ xs ++ (x ∷ []) = entered-room xs x (omega arith) in
+    let room : entered xs (x ∷ []) ≡ xs ++ (x ∷ []) = entered-room xs (x ∷ []) (omega arith) in
     (rw (e, l, room) (set-next z x xs (omega arith)), rw (l, room) (simp length-append (omega arith)))
 
 -- a count that says more than there are places counts them all

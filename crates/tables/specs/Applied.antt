@@ -36,9 +36,12 @@ sameRouter (Some a) None = false
 sameRouter (Some a) (Some b) = eqb a b
 
 -- What a lease enters: its address, and the default route by its router. A router that is not unicast makes no route.
+abbrev pub leasedAddr : ℕ → ℕ → IfaceAddr
+leasedAddr address prefix = record { address = address; prefix = prefix; dhcp = true }
+
 abbrev pub leasedAddrs : MaybeCidr → List IfaceAddr
 leasedAddrs Absent = []
-leasedAddrs (Cidr address prefix) = record { address = address; prefix = prefix; dhcp = true } ∷ []
+leasedAddrs (Cidr address prefix) = leasedAddr address prefix ∷ []
 
 abbrev pub defaultRoute : ℕ → Route
 defaultRoute router = record { network = 0; prefix = 0; router = router; dhcp = true }

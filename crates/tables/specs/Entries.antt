@@ -39,7 +39,10 @@ inPlaces zeros xs = xs ++ replicate (places - length xs) zeros
 abbrev pub full : {A : Type 0} → List A → Bool
 full xs = leb places (length xs)
 
--- The list with new entries behind the others, if there is room: a full table loses them.
-unfoldable pub entered : {A : Type 0} → List A → List A → List A
-entered xs [] = xs
-entered xs (y ∷ ys) = if full xs then xs else entered (xs ++ (y ∷ [])) ys
+-- What a table with these others takes of a new entry: a full one loses it.
+unfoldable pub lessLost : {A : Type 0} → List A → List A → List A
+lessLost others new = if full others then [] else new
+
+-- The others, and the new entry behind them, unless it is lost.
+abbrev pub entered : {A : Type 0} → List A → List A → List A
+entered others new = others ++ lessLost others new

@@ -42,12 +42,19 @@ manualAddr address prefix = record { address = address; prefix = prefix; dhcp = 
 abbrev pub manualRoute : ℕ → ℕ → ℕ → Route
 manualRoute network prefix router = record { network = network; prefix = prefix; router = router; dhcp = false }
 
--- Whether an entry stays when those with an address and prefix are dropped: DHCP's does, and any other one does.
+-- Whether an entry is one that a drop names.
+abbrev pub addrMatches : ℕ → ℕ → IfaceAddr → Bool
+addrMatches address prefix a = eqb (a .address) address && eqb (a .prefix) prefix
+
+abbrev pub routeMatches : ℕ → ℕ → ℕ → Route → Bool
+routeMatches network prefix router a = (eqb (a .network) network && eqb (a .prefix) prefix) && eqb (a .router) router
+
+-- What a drop leaves: DHCP's entries, and the others that it does not name.
 abbrev pub addrStays : ℕ → ℕ → IfaceAddr → Bool
-addrStays address prefix a = a .dhcp || not (eqb (a .address) address && eqb (a .prefix) prefix)
+addrStays address prefix a = a .dhcp || not (addrMatches address prefix a)
 
 abbrev pub routeStays : ℕ → ℕ → ℕ → Route → Bool
-routeStays network prefix router a = a .dhcp || not ((eqb (a .network) network && eqb (a .prefix) prefix) && eqb (a .router) router)
+routeStays network prefix router a = a .dhcp || not (routeMatches network prefix router a)
 
 -- What every manual call tests first.
 unfoldable pub admitted : Tables → ℕ → Bool

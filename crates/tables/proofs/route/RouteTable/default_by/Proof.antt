@@ -1,3 +1,4 @@
+use Rattle.tables.proofs.Lists.{entered-none}
 use Rattle.tables.proofs.Leases.{by-unicast, by-none}
 use Rattle.tables.specs.Tables.{routeTable, routesOf}
 use Rattle.tables.specs.Entries.{entered}
@@ -17,9 +18,8 @@ x-is-unicast-requires c κs = search needs
 
 -- src/apply.rt:104:13
 returns : tie.Need-returns
-unfolding entered
 returns c =
-    rw (by-none (c .before .before .args .router) (sym (c .before .x-is-unicast .ensures) ∙ not-true _ (c .if1 .taken))) (c .before .before .pre)
+    rw (by-none (c .before .before .args .router) (sym (c .before .x-is-unicast .ensures) ∙ not-true _ (c .if1 .taken))) (c .before .before .pre ∙ ap routeTable (sym (entered-none (routesOf (c .before .before .args .self)))))
 
 -- src/apply.rt:106:9
 with-requires : tie.Need-with-requires

@@ -1,8 +1,9 @@
+use mathlib.Core.List.{[], _∷_}
 use Rattle.tables.proofs.Loops.{one-more}
 use Rattle.tables.proofs.Lists.{entered-full}
 use Rattle.tables.specs.declared.route.RouteTable.{RouteTable}
 use Rattle.tables.specs.Tables.{zeroRoute, routeTable, routesOf}
-use lib.ListN.{length, length-map}
+use lib.ListN.{length}
 use mathlib.Core.Path.{_≡_, sym, ap, _∙_}
 use native.Mathlib.Omega.{arith}
 use borrow.Author.Needs.{needs}
@@ -16,7 +17,7 @@ returns : tie.Need-returns
 returns c =
     let self = c .before .args .self in
     let l : self .count ≡ length (routesOf self) = ap (λ (t : RouteTable). t .count) (c .before .pre) in
-    c .before .pre ∙ ap routeTable (sym (entered-full (routesOf self) (c .before .args .entry) (omega arith)))
+    c .before .pre ∙ ap routeTable (sym (entered-full (routesOf self) (c .before .args .entry ∷ []) (omega arith)))
 
 -- src/route.rt:106:9
 mul-entries : tie.Need-mul-entries
