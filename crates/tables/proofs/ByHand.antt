@@ -47,7 +47,7 @@ routes-refused : (t : Tables) (f : List Route → List Route) (n : ℕ) → Rout
 routes-refused t f n = record { own = refl; others = λ h. cc; addrs = refl; generation = refl; kept = λ m h. refl; whole = λ h. h }
 
 addrs-changed : (t : Tables) (f : List IfaceAddr → List IfaceAddr) (ys : List IfaceAddr) → only addrIsDhcp ys ≡ dhcpAddrs t → only addrIsManual ys ≡ f (otherAddrs t)
-    → (wholeTables t ≡ true → Sound addrFits ys) → AddrsByHand t f (changedAddrs t (addrTable ys))
+    → (wholeTables t ≡ true → Sound addrFits ys) → AddrsByHand t f (changedAddrs t ys)
 addrs-changed t f ys d m s =
     record {
       own = ap (only addrIsDhcp) (addrs-made ys) ∙ d;
@@ -55,11 +55,11 @@ addrs-changed t f ys d m s =
       routes = refl;
       generation = refl;
       kept = λ n h. cc;
-      whole = λ h. whole-parts (changedAddrs t (addrTable ys) .tables) (sound-addrs ys (s h)) (parts-whole t h .1);
+      whole = λ h. whole-parts (changedAddrs t ys .tables) (sound-addrs ys (s h)) (parts-whole t h .1);
     }
 
 routes-changed : (t : Tables) (f : List Route → List Route) (ys : List Route) → only routeIsDhcp ys ≡ dhcpRoutes t → only routeIsManual ys ≡ f (otherRoutes t)
-    → (wholeTables t ≡ true → Sound routeFits ys) → RoutesByHand t f (changedRoutes t (routeTable ys))
+    → (wholeTables t ≡ true → Sound routeFits ys) → RoutesByHand t f (changedRoutes t ys)
 routes-changed t f ys d m s =
     record {
       own = ap (only routeIsDhcp) (routes-made ys) ∙ d;
@@ -67,7 +67,7 @@ routes-changed t f ys d m s =
       addrs = refl;
       generation = refl;
       kept = λ n h. cc;
-      whole = λ h. whole-parts (changedRoutes t (routeTable ys) .tables) (parts-whole t h .0) (sound-routes ys (s h));
+      whole = λ h. whole-parts (changedRoutes t ys .tables) (parts-whole t h .0) (sound-routes ys (s h));
     }
 
 -- one entry more that does not pass a test, or that does

@@ -22,18 +22,18 @@ use Rattle.tables.specs.declared.manual.Changed.{Changed}
 abbrev pub refused : Tables → ℕ → Changed
 refused t number = record { tables = t; outcome = Refused number }
 
--- The tables with another one in the place of one of the two, and nothing else changed.
-abbrev pub changedAddrs : Tables → AddrTable → Changed
-changedAddrs t table = record {
-  tables = record { «ip_addrs» = table; routes = t .routes; «config_generation» = t .«config_generation» };
+-- These tables, and nothing else changed: not the generation.
+abbrev pub changed : Tables → AddrTable → RouteTable → Changed
+changed t addrs routes = record {
+  tables = record { «ip_addrs» = addrs; routes = routes; «config_generation» = t .«config_generation» };
   outcome = Done;
 }
 
-abbrev pub changedRoutes : Tables → RouteTable → Changed
-changedRoutes t table = record {
-  tables = record { «ip_addrs» = t .«ip_addrs»; routes = table; «config_generation» = t .«config_generation» };
-  outcome = Done;
-}
+abbrev pub changedAddrs : Tables → List IfaceAddr → Changed
+changedAddrs t xs = changed t (addrTable xs) (t .routes)
+
+abbrev pub changedRoutes : Tables → List Route → Changed
+changedRoutes t xs = changed t (t .«ip_addrs») (routeTable xs)
 
 -- An entry put in by hand.
 abbrev pub manualAddr : ℕ → ℕ → IfaceAddr
@@ -64,21 +64,21 @@ unfoldable pub addAddress : Tables → ℕ → ℕ → Changed
 addAddress t address prefix =
     if not (admitted t prefix) then refused t 9
     else if full (addrsOf (t .«ip_addrs»)) then refused t 11
-    else changedAddrs t (addrTable (addrsOf (t .«ip_addrs») ++ (manualAddr address prefix ∷ [])))
+    else changedAddrs t (addrsOf (t .«ip_addrs») ++ (manualAddr address prefix ∷ []))
 
 unfoldable pub dropAddress : Tables → ℕ → ℕ → Changed
 dropAddress t address prefix =
     if not (admitted t prefix) then refused t 9
-    else changedAddrs t (addrTable (only (addrStays address prefix) (addrsOf (t .«ip_addrs»))))
+    else changedAddrs t (only (addrStays address prefix) (addrsOf (t .«ip_addrs»)))
 
 unfoldable pub addRoute : Tables → ℕ → ℕ → ℕ → Changed
 addRoute t network prefix router =
     if not (admitted t prefix) then refused t 9
     else if not (unicast router) then refused t 10
     else if full (routesOf (t .routes)) then refused t 11
-    else changedRoutes t (routeTable (routesOf (t .routes) ++ (manualRoute network prefix router ∷ [])))
+    else changedRoutes t (routesOf (t .routes) ++ (manualRoute network prefix router ∷ []))
 
 unfoldable pub dropRoute : Tables → ℕ → ℕ → ℕ → Changed
 dropRoute t network prefix router =
     if not (admitted t prefix) then refused t 9
-    else changedRoutes t (routeTable (only (routeStays network prefix router) (routesOf (t .routes))))
+    else changedRoutes t (only (routeStays network prefix router) (routesOf (t .routes)))

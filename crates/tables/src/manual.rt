@@ -1,6 +1,6 @@
 // The manual calls. They never touch an entry of DHCP's, nor the generation.
 ghost use mathlib.Core.Path.{_≡_};
-ghost use Rattle.tables.specs.Manual.{refused, changedAddrs, changedRoutes, admitted, addAddress, dropAddress, addRoute, dropRoute};
+ghost use Rattle.tables.specs.Manual.{refused, changed, admitted, addAddress, dropAddress, addRoute, dropRoute};
 use crate::address::AddrTable;
 use crate::address::AddrsOut;
 use crate::address::IfaceAddr;
@@ -41,7 +41,8 @@ impl Tables {
             prefix,
             dhcp: false,
         });
-        self.with_addrs(more)
+        let routes = self.routes;
+        self.changed(more, routes)
     }
 
     // Without the addresses put in by hand that have this address and prefix.
@@ -53,7 +54,8 @@ impl Tables {
         }
         let addrs = self.ip_addrs;
         let kept = addrs.kept(AddrsOut::Manual { address, prefix });
-        self.with_addrs(kept)
+        let routes = self.routes;
+        self.changed(kept, routes)
     }
 
     // A route more, at the end.
@@ -63,11 +65,12 @@ impl Tables {
         if !self.admits(prefix) {
             return self.refused(9);
         }
+        let routes = self.routes;
+        let full = PLACES <= routes.len();
         if !octets::address::x_is_unicast(router) {
             return self.refused(10);
         }
-        let routes = self.routes;
-        if PLACES <= routes.len() {
+        if full {
             return self.refused(11);
         }
         let kept = routes.kept(RoutesOut::Nothing);
@@ -77,7 +80,8 @@ impl Tables {
             router,
             dhcp: false,
         });
-        self.with_routes(more)
+        let addrs = self.ip_addrs;
+        self.changed(addrs, more)
     }
 
     // Without the routes put in by hand that have this network, prefix and router.
@@ -93,7 +97,8 @@ impl Tables {
             prefix,
             router,
         });
-        self.with_routes(kept)
+        let addrs = self.ip_addrs;
+        self.changed(addrs, kept)
     }
 
     // Whether number 9 finds nothing in the tables and in the prefix that a manual call was passed.
@@ -115,29 +120,13 @@ impl Tables {
         }
     }
 
-    // The tables with another address table.
-    fn with_addrs(self, addrs: AddrTable) -> Changed
-        ensures { λ r. ⌜ r ≡ changedAddrs self addrs ⌝ }
+    // These tables, and nothing else changed.
+    fn changed(self, addrs: AddrTable, routes: RouteTable) -> Changed
+        ensures { λ r. ⌜ r ≡ changed self addrs routes ⌝ }
     {
-        let routes = self.routes;
         Changed {
             tables: Tables {
                 ip_addrs: addrs,
-                routes,
-                config_generation: self.config_generation,
-            },
-            outcome: Outcome::Done,
-        }
-    }
-
-    // The tables with another route table.
-    fn with_routes(self, routes: RouteTable) -> Changed
-        ensures { λ r. ⌜ r ≡ changedRoutes self routes ⌝ }
-    {
-        let ip_addrs = self.ip_addrs;
-        Changed {
-            tables: Tables {
-                ip_addrs,
                 routes,
                 config_generation: self.config_generation,
             },

@@ -1,7 +1,8 @@
 use Rattle.tables.proofs.Additions.{address-added}
 use Rattle.tables.proofs.Made.{addrs-rewritten}
 use Rattle.tables.specs.declared.address.IfaceAddr.{IfaceAddr}
-use Rattle.tables.specs.Manual.{addAddress, changedAddrs, manualAddr}
+use Rattle.tables.specs.declared.address.AddrTable.{AddrTable}
+use Rattle.tables.specs.Manual.{addAddress, changed, manualAddr}
 use Rattle.tables.specs.Tables.{addrsOf}
 use Rattle.tables.specs.Entries.{only, places}
 use Rattle.clock.proofs.Choices.{if-true, if-false}
@@ -20,8 +21,8 @@ use Rattle.tables.proofs.address.AddrTable.kept.Reads as kept-reads
 use Rattle.tables.proofs.address.AddrTable.len.Reads as len-reads
 use Rattle.tables.proofs.address.AddrTable.with.Reads as with-reads
 use Rattle.tables.proofs.tables.Tables.admits.Reads as admits-reads
+use Rattle.tables.proofs.tables.Tables.changed.Reads as changed-reads
 use Rattle.tables.proofs.tables.Tables.refused.Reads as refused-reads
-use Rattle.tables.proofs.tables.Tables.with_addrs.Reads as with-addrs-reads
 
 -- src/manual.rt:31:13
 admits-requires : tie.Need-admits-requires
@@ -60,18 +61,18 @@ with-requires : tie.Need-with-requires
 with-requires c κs =
     addrs-rewritten _ (only (λ (a : IfaceAddr). true) (addrsOf (c .before .before .before .before .before .before .args .self .«ip_addrs»))) (c .kept .ensures)
 
--- src/manual.rt:44:9
-with-addrs-requires : tie.Need-with-addrs-requires
-with-addrs-requires c κs = search needs
+-- src/manual.rt:45:9
+changed-requires : tie.Need-changed-requires
+changed-requires c κs = search needs
 
 -- src/manual.rt:28:5
 returns-3 : tie.Need-returns-3
 unfolding addAddress
 returns-3 c =
-    let self = c .before .before .before .before .before .before .before .before .args .self in
-    let h : length (addrsOf (self .«ip_addrs»)) < places = omega (arith, c .before .before .before .before .len .ensures, c .before .before .before .if2 .left) in
-    let e = address-added (self .«ip_addrs») (c .before .before .kept .result) (c .before .with .result) (manualAddr (c .before .before .before .before .before .before .before .before .args .address) (c .before .before .before .before .before .before .before .before .args .prefix)) (c .before .before .kept .ensures) (c .before .with .ensures) h in
-    if-false _ (ap not (sym (c .before .before .before .before .before .before .before .admits .ensures)) ∙ c .before .before .before .before .before .before .if1 .left) (if-false _ (lt-leb _ _ h) (c .with-addrs .ensures ∙ ap (changedAddrs self) e))
+    let self = c .before .before .before .before .before .before .before .before .before .args .self in
+    let h : length (addrsOf (self .«ip_addrs»)) < places = omega (arith, c .before .before .before .before .before .len .ensures, c .before .before .before .before .if2 .left) in
+    let e = address-added (self .«ip_addrs») (c .before .before .before .kept .result) (c .before .before .with .result) (manualAddr (c .before .before .before .before .before .before .before .before .before .args .address) (c .before .before .before .before .before .before .before .before .before .args .prefix)) (c .before .before .before .kept .ensures) (c .before .before .with .ensures) h in
+    if-false _ (ap not (sym (c .before .before .before .before .before .before .before .before .admits .ensures)) ∙ c .before .before .before .before .before .before .before .if1 .left) (if-false _ (lt-leb _ _ h) (c .changed .ensures ∙ ap (λ (x : AddrTable). changed self x (self .routes)) e))
 
 pub add-address-spec : {M : Type 1} → statement M
 add-address-spec =
@@ -85,5 +86,5 @@ add-address-spec =
     returns-2
     kept-requires
     with-requires
-    with-addrs-requires
+    changed-requires
     returns-3)

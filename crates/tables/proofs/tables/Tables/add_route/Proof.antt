@@ -1,13 +1,13 @@
 use Rattle.tables.proofs.Additions.{route-added}
 use Rattle.tables.proofs.Made.{routes-rewritten}
 use Rattle.tables.specs.declared.route.Route.{Route}
-use Rattle.tables.specs.Manual.{addRoute, changedRoutes, manualRoute}
+use Rattle.tables.specs.Manual.{addRoute, changed, manualRoute}
 use Rattle.tables.specs.Tables.{routesOf}
 use Rattle.tables.specs.Entries.{only, places}
 use Rattle.clock.proofs.Choices.{if-true, if-false}
 use Prim.Native.Nat.{_<_, _≤_}
 use lib.ListN.{length}
-use borrow.Author.Tests.{le-leb, lt-leb}
+use borrow.Author.Tests.{le-leb, lt-leb, leb-true, leb-false}
 use native.Mathlib.Omega.{arith}
 use mathlib.Core.Bool.{not, true}
 use mathlib.Core.Path.{sym, ap, _∙_, _≡_}
@@ -21,76 +21,76 @@ use Rattle.tables.proofs.route.RouteTable.kept.Reads as kept-reads
 use Rattle.tables.proofs.route.RouteTable.len.Reads as len-reads
 use Rattle.tables.proofs.route.RouteTable.with.Reads as with-reads
 use Rattle.tables.proofs.tables.Tables.admits.Reads as admits-reads
+use Rattle.tables.proofs.tables.Tables.changed.Reads as changed-reads
 use Rattle.tables.proofs.tables.Tables.refused.Reads as refused-reads
-use Rattle.tables.proofs.tables.Tables.with_routes.Reads as with-routes-reads
 
--- src/manual.rt:63:13
+-- src/manual.rt:65:13
 admits-requires : tie.Need-admits-requires
 admits-requires c κs = search needs
 
--- src/manual.rt:64:13
+-- src/manual.rt:66:13
 refused-requires : tie.Need-refused-requires
 refused-requires c κs = search needs
 
--- src/manual.rt:64:13
+-- src/manual.rt:66:13
 returns : tie.Need-returns
 unfolding addRoute
 returns c = if-true _ (ap not (sym (c .before .before .admits .ensures)) ∙ c .before .if1 .taken) (c .refused .ensures)
 
--- src/manual.rt:66:13
-x-is-unicast-requires : tie.Need-x-is-unicast-requires
-x-is-unicast-requires c κs = search needs
-
--- src/manual.rt:67:13
-refused-requires-2 : tie.Need-refused-requires-2
-refused-requires-2 c κs = search needs
-
--- src/manual.rt:67:13
-returns-2 : tie.Need-returns-2
-unfolding addRoute
-returns-2 c =
-    if-false _ (ap not (sym (c .before .before .before .before .admits .ensures)) ∙ c .before .before .before .if1 .left) (if-true _ (ap not (sym (c .before .before .x-is-unicast .ensures)) ∙ c .before .if2 .taken) (c .refused2 .ensures))
-
--- src/manual.rt:70:22
+-- src/manual.rt:69:30
 len-requires : tie.Need-len-requires
 len-requires c κs = search needs
 
+-- src/manual.rt:70:13
+x-is-unicast-requires : tie.Need-x-is-unicast-requires
+x-is-unicast-requires c κs = search needs
+
 -- src/manual.rt:71:13
+refused-requires-2 : tie.Need-refused-requires-2
+refused-requires-2 c κs = search needs
+
+-- src/manual.rt:71:13
+returns-2 : tie.Need-returns-2
+unfolding addRoute
+returns-2 c =
+    if-false _ (ap not (sym (c .before .before .before .before .before .before .admits .ensures)) ∙ c .before .before .before .before .before .if1 .left) (if-true _ (ap not (sym (c .before .before .x-is-unicast .ensures)) ∙ c .before .if2 .taken) (c .refused2 .ensures))
+
+-- src/manual.rt:74:13
 refused-requires-3 : tie.Need-refused-requires-3
 refused-requires-3 c κs = search needs
 
--- src/manual.rt:71:13
+-- src/manual.rt:74:13
 returns-3 : tie.Need-returns-3
 unfolding addRoute
 returns-3 c =
-    let h : places ≤ length (routesOf (c .before .before .before .before .before .before .before .before .args .self .routes)) = omega (arith, c .before .before .len .ensures, c .before .if3 .taken) in
+    let h : places ≤ length (routesOf (c .before .before .before .before .before .before .before .before .args .self .routes)) = omega (arith, c .before .before .before .before .len .ensures, leb-true places (c .before .before .before .before .len .result) (c .before .if3 .taken)) in
     if-false _ (ap not (sym (c .before .before .before .before .before .before .before .admits .ensures)) ∙ c .before .before .before .before .before .before .if1 .left)
-    (if-false _ (ap not (sym (c .before .before .before .before .before .x-is-unicast .ensures)) ∙ c .before .before .before .before .if2 .left)
+    (if-false _ (ap not (sym (c .before .before .before .x-is-unicast .ensures)) ∙ c .before .before .if2 .left)
     (if-true _ (le-leb _ _ h) (c .refused3 .ensures)))
 
--- src/manual.rt:73:13
+-- src/manual.rt:76:13
 kept-requires : tie.Need-kept-requires
 kept-requires c κs = search needs
 
--- src/manual.rt:74:13
+-- src/manual.rt:77:13
 with-requires : tie.Need-with-requires
 with-requires c κs =
     routes-rewritten _ (only (λ (a : Route). true) (routesOf (c .before .before .before .before .before .before .before .before .args .self .routes))) (c .kept .ensures)
 
--- src/manual.rt:80:9
-with-routes-requires : tie.Need-with-routes-requires
-with-routes-requires c κs = search needs
+-- src/manual.rt:84:9
+changed-requires : tie.Need-changed-requires
+changed-requires c κs = search needs
 
--- src/manual.rt:60:5
+-- src/manual.rt:62:5
 returns-4 : tie.Need-returns-4
 unfolding addRoute
 returns-4 c =
-    let self = c .before .before .before .before .before .before .before .before .before .before .args .self in
-    let h : length (routesOf (self .routes)) < places = omega (arith, c .before .before .before .before .len .ensures, c .before .before .before .if3 .left) in
-    let e = route-added (self .routes) (c .before .before .kept .result) (c .before .with .result) (manualRoute (c .before .before .before .before .before .before .before .before .before .before .args .network) (c .before .before .before .before .before .before .before .before .before .before .args .prefix) (c .before .before .before .before .before .before .before .before .before .before .args .router)) (c .before .before .kept .ensures) (c .before .with .ensures) h in
-    if-false _ (ap not (sym (c .before .before .before .before .before .before .before .before .before .admits .ensures)) ∙ c .before .before .before .before .before .before .before .before .if1 .left)
-    (if-false _ (ap not (sym (c .before .before .before .before .before .before .before .x-is-unicast .ensures)) ∙ c .before .before .before .before .before .before .if2 .left)
-    (if-false _ (lt-leb _ _ h) (c .with-routes .ensures ∙ ap (changedRoutes self) e)))
+    let self = c .before .before .before .before .before .before .before .before .before .before .before .args .self in
+    let h : length (routesOf (self .routes)) < places = omega (arith, c .before .before .before .before .before .before .before .len .ensures, leb-false places (c .before .before .before .before .before .before .before .len .result) (c .before .before .before .before .if3 .left)) in
+    let e = route-added (self .routes) (c .before .before .before .kept .result) (c .before .before .with .result) (manualRoute (c .before .before .before .before .before .before .before .before .before .before .before .args .network) (c .before .before .before .before .before .before .before .before .before .before .before .args .prefix) (c .before .before .before .before .before .before .before .before .before .before .before .args .router)) (c .before .before .before .kept .ensures) (c .before .before .with .ensures) h in
+    if-false _ (ap not (sym (c .before .before .before .before .before .before .before .before .before .before .admits .ensures)) ∙ c .before .before .before .before .before .before .before .before .before .if1 .left)
+    (if-false _ (ap not (sym (c .before .before .before .before .before .before .x-is-unicast .ensures)) ∙ c .before .before .before .before .before .if2 .left)
+    (if-false _ (lt-leb _ _ h) (c .changed .ensures ∙ ap (changed self (self .«ip_addrs»)) e)))
 
 pub add-route-spec : {M : Type 1} → statement M
 add-route-spec =
@@ -99,13 +99,13 @@ add-route-spec =
     admits-requires
     refused-requires
     returns
+    len-requires
     x-is-unicast-requires
     refused-requires-2
     returns-2
-    len-requires
     refused-requires-3
     returns-3
     kept-requires
     with-requires
-    with-routes-requires
+    changed-requires
     returns-4)
