@@ -1,24 +1,21 @@
 -- What the manual calls do: to DHCP's entries and the generation nothing, to the others what the call says, and nothing at
 -- all where they are refused. Assumes nothing.
 use Prim.Native.Nat.{ℕ}
-use mathlib.Core.Path.{_≡_, refl, ap, sym, _∙_}
+use mathlib.Core.Path.{_≡_, refl, ap, _∙_}
 use mathlib.Core.Bool.{Bool, true, false, not, _||_}
 use mathlib.Core.List.{List, [], _∷_, _++_, append-nil}
-use native.Mathlib.Omega.{arith}
-use lib.ListN.{length, length-append}
-use borrow.Author.Tests.{not-true, not-false, leb-false, leb-true}
+use borrow.Author.Tests.{not-false}
 use Rattle.clock.proofs.Choices.{if-cases, both-true}
 use Rattle.octets.specs.Addresses.{unicast}
-use Rattle.tables.specs.Entries.{only, all, places, full}
-use Rattle.tables.specs.Tables.{addrTable, routeTable, addrsOf, routesOf, addrIsDhcp, addrIsManual, routeIsDhcp, routeIsManual, addrFits, routeFits, dhcpAddrs, otherAddrs, dhcpRoutes, otherRoutes, prefixFits, wholeTables}
+use Rattle.tables.specs.Entries.{only, all, full}
+use Rattle.tables.specs.Tables.{addrsOf, routesOf, addrIsDhcp, addrIsManual, routeIsDhcp, routeIsManual, addrFits, routeFits, dhcpAddrs, otherAddrs, dhcpRoutes, otherRoutes, prefixFits, wholeTables}
 use Rattle.tables.specs.Manual.{refused, changedAddrs, changedRoutes, manualAddr, manualRoute, addrMatches, routeMatches, addrStays, routeStays, admitted, addAddress, dropAddress, addRoute, dropRoute}
 use Rattle.tables.specs.declared.address.IfaceAddr.{IfaceAddr}
 use Rattle.tables.specs.declared.route.Route.{Route}
 use Rattle.tables.specs.declared.tables.Tables.{Tables}
-use Rattle.tables.specs.declared.manual.Outcome.{Outcome}
 use Rattle.tables.specs.declared.manual.Outcome.the-variants.{Done, Refused}
 use Rattle.tables.specs.declared.manual.Changed.{Changed}
-use Rattle.tables.proofs.Lists.{only-takes, only-passes, only-append, only-implied, only-under, length-only, all-takes, all-only, all-append}
+use Rattle.tables.proofs.Lists.{only-takes, only-passes, only-append, only-implied, only-under}
 use Rattle.tables.proofs.Made.{addrs-made, routes-made}
 use Rattle.tables.proofs.Wholes.{Sound, addrs-sound, routes-sound, sound-addrs, sound-routes, sound-more, sound-less, parts-whole, whole-parts}
 

@@ -1,6 +1,6 @@
 -- Tables that were written anew. Assumes nothing.
 use mathlib.Core.Path.{_≡_, ap, sym, _∙_}
-use mathlib.Core.List.{List, [], _∷_}
+use mathlib.Core.List.{List}
 use lib.ListN.{replicate, length}
 use lib.Seq.{take-append-seam}
 use Prim.Native.Nat.{_-_}

@@ -1,19 +1,18 @@
 -- What each call does to DHCP's own entries, and to the others. Assumes nothing.
-use Prim.Native.Nat.{ℕ, _≤_}
-use mathlib.Core.Path.{_≡_, refl, ap, sym, _∙_}
-use mathlib.Core.Bool.{Bool, true, false, not, _||_, _&&_}
-use mathlib.Core.List.{List, [], _∷_, _++_, append-nil}
+use Prim.Native.Nat.{_≤_}
+use mathlib.Core.Path.{_≡_, refl, ap, _∙_}
+use mathlib.Core.Bool.{Bool, true, false, not, _&&_}
+use mathlib.Core.List.{List, [], _++_, append-nil}
 use lib.Dec.{eqb}
 use native.Mathlib.Omega.{arith}
-use lib.ListN.{length, length-append}
-use borrow.Author.Tests.{not-true, leb-false, eq-eqb, eqb-true}
+use lib.ListN.{length}
+use borrow.Author.Tests.{not-true, eq-eqb, eqb-true}
 use Rattle.clock.specs.Choice.{if_then_else_}
-use Rattle.clock.proofs.Choices.{if-true, if-false}
 use Rattle.octets.specs.Addresses.{unicast}
 use Rattle.octets.specs.declared.number.MaybeNumber.{MaybeNumber}
 use Rattle.octets.specs.declared.number.MaybeNumber.the-variants.{None, Some}
-use Rattle.tables.specs.Entries.{only, all, places, full, lessLost, entered}
-use Rattle.tables.specs.Tables.{addrTable, routeTable, addrsOf, routesOf, addrIsDhcp, addrIsManual, routeIsDhcp, routeIsManual, dhcpAddrs, otherAddrs, dhcpRoutes, otherRoutes, addrFits, routeFits, wholeAddrs, wholeRoutes, wholeTables}
+use Rattle.tables.specs.Entries.{only, all, lessLost, entered}
+use Rattle.tables.specs.Tables.{addrsOf, routesOf, addrIsDhcp, addrIsManual, routeIsDhcp, routeIsManual, dhcpAddrs, otherAddrs, dhcpRoutes, otherRoutes, addrFits, routeFits, wholeAddrs, wholeRoutes, wholeTables}
 use Rattle.tables.specs.Applied.{sameCidr, sameRouter, leasedAddr, leasedAddrs, defaultRoute, leasedRoutes, appliedAddrs, appliedRoutes, applied}
 use Rattle.tables.specs.declared.tables.Tables.{Tables}
 use Rattle.tables.specs.declared.apply.MaybeCidr.{MaybeCidr}
@@ -21,9 +20,9 @@ use Rattle.tables.specs.declared.apply.MaybeCidr.the-variants.{Absent, C
 use Rattle.tables.specs.declared.apply.Installed.{Installed}
 use Rattle.tables.specs.declared.address.AddrTable.{AddrTable}
 use Rattle.tables.specs.declared.route.RouteTable.{RouteTable}
-use Rattle.tables.proofs.Lists.{only-takes, only-passes, only-append, only-implied, only-excluded, length-only, all-takes, all-only, all-append, lost-if, taken-if, less-lost}
+use Rattle.tables.proofs.Lists.{only-takes, only-passes, only-append, only-implied, only-excluded, all-takes, less-lost}
 use Rattle.tables.proofs.Leases.{by-unicast, by-none}
-use Rattle.tables.proofs.Wholes.{Sound, addrs-sound, routes-sound, sound-addrs, sound-routes, sound-entered, parts-whole, whole-parts}
+use Rattle.tables.proofs.Wholes.{addrs-sound, routes-sound, sound-addrs, sound-routes, sound-entered, parts-whole, whole-parts}
 use Rattle.tables.proofs.Made.{addrs-made, routes-made}
 
 -- new entries of DHCP's behind others that are not, whatever an entry holds

@@ -1,7 +1,6 @@
 -- Look-ups in tables; 9 where these are not whole.
 use Prim.Native.Nat.{ℕ}
 use mathlib.Core.Bool.{Bool, not, _&&_}
-use mathlib.Core.List.{List}
 use mathlib.Core.Option.{Option, none, some}
 use lib.ListN.{length, getElem?}
 use lib.Dec.{eqb}

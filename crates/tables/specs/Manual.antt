@@ -2,7 +2,7 @@
 -- address and prefix, for a route that router too; none there is no refusal), without touching config_generation".
 -- Refused, in this order: 9 tables not whole, or the prefix over 32; 10 router not unicast; 11 table full.
 use Prim.Native.Nat.{ℕ}
-use mathlib.Core.Bool.{Bool, true, false, not, _&&_, _||_}
+use mathlib.Core.Bool.{Bool, false, not, _&&_, _||_}
 use mathlib.Core.List.{List, [], _∷_, _++_}
 use lib.Dec.{eqb}
 use Rattle.clock.specs.Choice.{if_then_else_}
@@ -14,7 +14,6 @@ use Rattle.tables.specs.declared.route.Route.{Route}
 use Rattle.tables.specs.declared.address.AddrTable.{AddrTable}
 use Rattle.tables.specs.declared.route.RouteTable.{RouteTable}
 use Rattle.tables.specs.declared.tables.Tables.{Tables}
-use Rattle.tables.specs.declared.manual.Outcome.{Outcome}
 use Rattle.tables.specs.declared.manual.Outcome.the-variants.{Done, Refused}
 use Rattle.tables.specs.declared.manual.Changed.{Changed}
 

@@ -1,6 +1,6 @@
 -- The tables: which entries are in use, which of them are DHCP's, and when tables are whole.
 use Prim.Native.Nat.{ℕ}
-use mathlib.Core.Bool.{Bool, true, false, not}
+use mathlib.Core.Bool.{Bool, false, not}
 use mathlib.Core.List.{List, []}
 use lib.ListN.{length, take}
 use lib.Dec.{leb}

@@ -2,36 +2,27 @@ use Rattle.tables.proofs.Loops.{past-use, within-use}
 use Rattle.tables.specs.Lookups.{addrOr}
 use Rattle.tables.specs.Tables.{zeroAddr}
 use lib.ListN.{length, length-map}
-use native.Mathlib.Omega.{arith}
 use mathlib.Core.Path.{_≡_, ap, sym}
 use borrow.Author.Needs.{needs}
 use Rattle.tables.proofs.address.AddrTable.at.Statement.{statement}
 use Rattle.tables.proofs.address.AddrTable.at.Tie as tie
-use Rattle.tables.proofs.address.AddrTable.at.Reads as reads
-use Rattle.tables.proofs.address.AddrTable.at.Lts as lts
-use Rattle.tables.proofs.tables.in_use.Reads as in-use-reads
 
 size : (c : tie.Start) → length (c .args .self .entries) ≡ 4
 size c = simp length-map at (c .good .0 .1 .1 .0 .1 .0 .1)
 
--- src/address.rt:106:13
 in-use-requires : tie.Need-in-use-requires
 in-use-requires c κs = search needs
 
--- src/address.rt:108:13
 returns : tie.Need-returns
 returns c =
     sym (ap addrOr (past-use (c .before .in-use .result) (c .before .before .before .args .self .count) (c .before .before .before .args .place) (c .before .before .before .args .self .entries) (size (c .before .before .before)) (c .before .in-use .ensures) (c .if1 .taken)))
 
--- src/address.rt:110:23
 mul-t6 : tie.Need-mul-t6
 mul-t6 c = search needs
 
--- src/address.rt:110:23
 array-copy-out-t9 : tie.Need-array-copy-out-t9
 array-copy-out-t9 c = search needs
 
--- src/address.rt:102:5
 returns-2 : tie.Need-returns-2
 returns-2 c =
     sym (ap addrOr (within-use (c .before .before .in-use .result) (c .before .before .before .before .args .self .count) (c .before .before .before .before .args .place) (c .before .before .before .before .args .self .entries) (size (c .before .before .before .before)) (c .before .before .in-use .ensures) zeroAddr (c .before .if1 .left)))

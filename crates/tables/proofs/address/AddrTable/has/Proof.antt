@@ -2,18 +2,15 @@ use Rattle.tables.proofs.Loops.{Sought, sets-out, goes-on, found, ended
 use Rattle.tables.proofs.Lists.{any-holds, any-passes}
 use Rattle.tables.specs.Lookups.{isAt}
 use Rattle.tables.specs.Tables.{zeroAddr}
-use Rattle.tables.specs.Entries.{any, places}
+use Rattle.tables.specs.Entries.{any}
 use lib.ListN.{length, length-map}
-use mathlib.Core.Path.{_≡_, refl, sym, _∙_, ap}
-use Prim.Native.Nat.{_-_, min}
+use mathlib.Core.Path.{_≡_, sym, _∙_}
+use Prim.Native.Nat.{_-_}
 use borrow.Author.Tests.{eq-eqb, ne-eqb}
 use borrow.Author.Needs.{needs}
 use native.Mathlib.Omega.{arith}
 use Rattle.tables.proofs.address.AddrTable.has.Statement.{statement}
 use Rattle.tables.proofs.address.AddrTable.has.Tie as tie
-use Rattle.tables.proofs.address.AddrTable.has.Reads as reads
-use Rattle.tables.proofs.address.AddrTable.has.Lts as lts
-use Rattle.tables.proofs.tables.in_use.Reads as in-use-reads
 
 abbrev Inv-loop : tie.InvT-loop
 Inv-loop address entries n i₀ i = Sought (any (isAt address)) entries n i
@@ -24,42 +21,33 @@ abbrev μ-loop : tie.MeasureT-loop
 size : (c : tie.Start Inv-loop μ-loop) → length (c .args .self .entries) ≡ 4
 size c = simp length-map at (c .good .0 .1 .1 .0 .1 .0 .1)
 
--- src/address.rt:117:13
 in-use-requires : tie.Need-in-use-requires Inv-loop μ-loop
 in-use-requires c κs = search needs
 
--- src/address.rt:119:9
 loop-holds : tie.Need-loop-holds Inv-loop μ-loop
 loop-holds c = sets-out (any (isAt (c .before .before .args .address))) zeroAddr _ _ (size (c .before .before)) (omega arith)
 
--- src/address.rt:120:25
 mul-entry : tie.Need-mul-entry Inv-loop μ-loop
 mul-entry c = search needs
 
--- src/address.rt:120:25
 array-copy-out-entry : tie.Need-array-copy-out-entry Inv-loop μ-loop
 array-copy-out-entry c = search needs
 
--- src/address.rt:122:17
 returns : tie.Need-returns Inv-loop μ-loop
 returns c =
     let f = any (isAt (c .before .before .before .before .before .before .before .args .address)) in
     sym (in-used f _ _ _ (c .before .before .before .before .loop .inv .long) (c .before .before .before .before .before .in-use .ensures) ∙ found f zeroAddr _ _ (c .before .before .before .before .loop .i) (c .before .before .before .before .loop .inv) (c .before .before .before .loop-test .taken) _ (λ xs. any-holds (isAt (c .before .before .before .before .before .before .before .args .address)) _ xs (eq-eqb _ _ (c .if1 .taken))))
 
--- src/address.rt:124:13
 add-i : tie.Need-add-i Inv-loop μ-loop
 add-i c = search needs
 
--- src/address.rt:119:9
 loop-less : tie.Need-loop-less Inv-loop μ-loop
 loop-less c = search needs
 
--- src/address.rt:119:9
 loop-again : tie.Need-loop-again Inv-loop μ-loop
 loop-again c =
     goes-on (any (isAt (c .before .before .before .before .before .before .before .args .address))) zeroAddr _ _ (c .before .before .before .before .loop .i) (c .before .before .before .before .loop .inv) (c .before .before .before .loop-test .taken) (λ xs. any-passes (isAt (c .before .before .before .before .before .before .before .args .address)) _ xs (ne-eqb _ _ (c .if1 .left)))
 
--- src/address.rt:113:5
 returns-2 : tie.Need-returns-2 Inv-loop μ-loop
 unfolding any
 returns-2 c =

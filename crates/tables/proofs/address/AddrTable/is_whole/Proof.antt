@@ -4,16 +4,13 @@ use Rattle.tables.specs.Tables.{zeroAddr, wholeAddrs, addrFits}
 use Rattle.tables.specs.Entries.{all}
 use Rattle.clock.proofs.Choices.{if-true, if-false}
 use lib.ListN.{length, length-map}
-use mathlib.Core.List.{List}
-use mathlib.Core.Path.{_≡_, refl, sym, _∙_}
+use mathlib.Core.Path.{_≡_, refl, sym}
 use Prim.Native.Nat.{_-_}
 use borrow.Author.Tests.{le-leb, lt-leb}
 use borrow.Author.Needs.{needs}
 use native.Mathlib.Omega.{arith}
 use Rattle.tables.proofs.address.AddrTable.is_whole.Statement.{statement}
 use Rattle.tables.proofs.address.AddrTable.is_whole.Tie as tie
-use Rattle.tables.proofs.address.AddrTable.is_whole.Reads as reads
-use Rattle.tables.proofs.address.AddrTable.is_whole.Lts as lts
 
 abbrev Inv-loop : tie.InvT-loop
 Inv-loop entries n i₀ i = Sought (all addrFits) entries n i
@@ -24,43 +21,34 @@ abbrev μ-loop : tie.MeasureT-loop
 size : (c : tie.Start Inv-loop μ-loop) → length (c .args .self .entries) ≡ 4
 size c = simp length-map at (c .good .0 .1 .1 .0 .1 .0 .1)
 
--- src/address.rt:99:13
 returns : tie.Need-returns Inv-loop μ-loop
 unfolding wholeAddrs
 returns c = if-false _ (lt-leb _ _ (c .if1 .taken)) refl
 
--- src/address.rt:102:9
 loop-holds : tie.Need-loop-holds Inv-loop μ-loop
 loop-holds c = sets-out (all addrFits) zeroAddr _ _ (size (c .before .before)) (c .if1 .left)
 
--- src/address.rt:103:25
 mul-entry : tie.Need-mul-entry Inv-loop μ-loop
 mul-entry c = search needs
 
--- src/address.rt:103:25
 array-copy-out-entry : tie.Need-array-copy-out-entry Inv-loop μ-loop
 array-copy-out-entry c = search needs
 
--- src/address.rt:105:17
 returns-2 : tie.Need-returns-2 Inv-loop μ-loop
 unfolding wholeAddrs
 returns-2 c =
     if-true _ (le-leb _ _ (c .before .before .before .before .before .if1 .left)) (sym (found (all addrFits) zeroAddr _ _ (c .before .before .before .before .loop .i) (c .before .before .before .before .loop .inv) (c .before .before .before .loop-test .taken) _ (λ xs. all-fails addrFits _ xs (lt-leb _ _ (c .if2 .taken)))))
 
--- src/address.rt:107:13
 add-i : tie.Need-add-i Inv-loop μ-loop
 add-i c = search needs
 
--- src/address.rt:102:9
 loop-less : tie.Need-loop-less Inv-loop μ-loop
 loop-less c = search needs
 
--- src/address.rt:102:9
 loop-again : tie.Need-loop-again Inv-loop μ-loop
 loop-again c =
     goes-on (all addrFits) zeroAddr _ _ (c .before .before .before .before .loop .i) (c .before .before .before .before .loop .inv) (c .before .before .before .loop-test .taken) (λ xs. all-takes addrFits _ xs (le-leb _ _ (c .if2 .left)))
 
--- src/address.rt:93:5
 returns-3 : tie.Need-returns-3 Inv-loop μ-loop
 unfolding wholeAddrs all
 returns-3 c =

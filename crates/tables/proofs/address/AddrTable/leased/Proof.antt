@@ -8,39 +8,28 @@ use Rattle.tables.specs.Entries.{only}
 use borrow.Author.Needs.{needs}
 use Rattle.tables.proofs.address.AddrTable.leased.Statement.{statement}
 use Rattle.tables.proofs.address.AddrTable.leased.Tie as tie
-use Rattle.tables.proofs.address.AddrTable.leased.Reads as reads
-use Rattle.tables.proofs.address.AddrTable.leased.Lts as lts
-use Rattle.tables.proofs.address.AddrTable.kept.Reads as kept-reads
-use Rattle.tables.proofs.address.AddrTable.with.Reads as with-reads
 
--- src/apply.rt:69:13
 returns : tie.Need-returns
 unfolding appliedAddrs
 returns c = if-true _ (c .if1 .taken) refl
 
--- src/apply.rt:71:13
 kept-requires : tie.Need-kept-requires
 kept-requires c κs = search needs
 
--- src/apply.rt:73:34
 enum-told : tie.Need-enum-told
 enum-told c = search needs
 
--- src/apply.rt:74:31
 enum-known-new : tie.Need-enum-known-new
 enum-known-new c = search needs
 
--- src/apply.rt:74:52
 with-requires : tie.Need-with-requires
 with-requires c κs =
     addrs-rewritten _ (only addrIsManual (addrsOf (c .before .before .before .before .before .args .self))) (c .before .before .before .kept .ensures)
 
--- src/apply.rt:65:5
 returns-2 : tie.Need-returns-2
 returns-2 c =
     address-gone (c .before .before .before .before .args .self) (c .before .before .kept .result) (c .before .before .before .before .args .new) (c .before .before .before .before .args .same) (c .before .before .before .if1 .left) (c .before .before .kept .ensures) (c .enum-told .given .1)
 
--- src/apply.rt:65:5
 returns-3 : tie.Need-returns-3
 returns-3 c =
     address-came (c .before .before .before .before .before .before .args .self) (c .before .before .before .before .kept .result) (c .before .before .before .before .before .before .args .new) (c .before .before .before .before .before .before .args .same) (c .before .before .before .before .before .if1 .left) (c .before .before .before .before .kept .ensures) (c .with .result) _ _ (c .before .before .new .given .1) (c .with .ensures)

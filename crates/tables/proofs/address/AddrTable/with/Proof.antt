@@ -9,29 +9,22 @@ use native.Mathlib.Omega.{arith}
 use borrow.Author.Needs.{needs}
 use Rattle.tables.proofs.address.AddrTable.with.Statement.{statement}
 use Rattle.tables.proofs.address.AddrTable.with.Tie as tie
-use Rattle.tables.proofs.address.AddrTable.with.Reads as reads
-use Rattle.tables.proofs.address.AddrTable.with.Lts as lts
 
--- src/address.rt:82:13
 returns : tie.Need-returns
 returns c =
     let self = c .before .args .self in
     let l : self .count ≡ length (addrsOf self) = ap (λ (t : AddrTable). t .count) (c .before .pre) in
     c .before .pre ∙ ap addrTable (sym (entered-full (addrsOf self) (c .before .args .entry ∷ []) (omega arith)))
 
--- src/address.rt:85:9
 mul-entries : tie.Need-mul-entries
 mul-entries c = search needs
 
--- src/address.rt:85:9
 array-set-from-entries : tie.Need-array-set-from-entries
 array-set-from-entries c = search needs
 
--- src/address.rt:88:20
 add-t6 : tie.Need-add-t6
 add-t6 c = search needs
 
--- src/address.rt:76:5
 returns-2 : tie.Need-returns-2
 returns-2 c =
     let self = c .before .before .args .self in

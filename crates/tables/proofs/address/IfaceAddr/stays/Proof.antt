@@ -1,31 +1,22 @@
-use mathlib.Core.Path.{refl}
 use borrow.Author.Needs.{needs}
 use Rattle.tables.proofs.address.IfaceAddr.stays.Statement.{statement}
 use Rattle.tables.proofs.address.IfaceAddr.stays.Tie as tie
-use Rattle.tables.proofs.address.IfaceAddr.stays.Reads as reads
-use Rattle.tables.proofs.address.IfaceAddr.stays.Lts as lts
 
--- src/address.rt:38:34
 enum-told : tie.Need-enum-told
 enum-told c = search needs
 
--- src/address.rt:39:31
 enum-told-2 : tie.Need-enum-told-2
 enum-told-2 c = search needs
 
--- src/address.rt:40:32
 enum-known-out : tie.Need-enum-known-out
 enum-known-out c = search needs
 
--- src/address.rt:34:5
 returns : tie.Need-returns
 returns c = search needs
 
--- src/address.rt:34:5
 returns-2 : tie.Need-returns-2
 returns-2 c = search needs
 
--- src/address.rt:34:5
 returns-3 : tie.Need-returns-3
 returns-3 c = cc
 

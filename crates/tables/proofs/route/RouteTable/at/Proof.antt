@@ -2,36 +2,27 @@ use Rattle.tables.proofs.Loops.{past-use, within-use}
 use Rattle.tables.specs.Lookups.{routeOr}
 use Rattle.tables.specs.Tables.{zeroRoute}
 use lib.ListN.{length, length-map}
-use native.Mathlib.Omega.{arith}
 use mathlib.Core.Path.{_≡_, ap, sym}
 use borrow.Author.Needs.{needs}
 use Rattle.tables.proofs.route.RouteTable.at.Statement.{statement}
 use Rattle.tables.proofs.route.RouteTable.at.Tie as tie
-use Rattle.tables.proofs.route.RouteTable.at.Reads as reads
-use Rattle.tables.proofs.route.RouteTable.at.Lts as lts
-use Rattle.tables.proofs.tables.in_use.Reads as in-use-reads
 
 size : (c : tie.Start) → length (c .args .self .entries) ≡ 4
 size c = simp length-map at (c .good .0 .1 .1 .0 .1 .0 .1)
 
--- src/route.rt:126:13
 in-use-requires : tie.Need-in-use-requires
 in-use-requires c κs = search needs
 
--- src/route.rt:128:13
 returns : tie.Need-returns
 returns c =
     sym (ap routeOr (past-use (c .before .in-use .result) (c .before .before .before .args .self .count) (c .before .before .before .args .place) (c .before .before .before .args .self .entries) (size (c .before .before .before)) (c .before .in-use .ensures) (c .if1 .taken)))
 
--- src/route.rt:130:24
 mul-t6 : tie.Need-mul-t6
 mul-t6 c = search needs
 
--- src/route.rt:130:24
 array-copy-out-t9 : tie.Need-array-copy-out-t9
 array-copy-out-t9 c = search needs
 
--- src/route.rt:122:5
 returns-2 : tie.Need-returns-2
 returns-2 c =
     sym (ap routeOr (within-use (c .before .before .in-use .result) (c .before .before .before .before .args .self .count) (c .before .before .before .before .args .place) (c .before .before .before .before .args .self .entries) (size (c .before .before .before .before)) (c .before .before .in-use .ensures) zeroRoute (c .before .if1 .left)))

@@ -1,31 +1,22 @@
 use Rattle.tables.proofs.Lists.{entered-none}
 use Rattle.tables.proofs.Leases.{by-unicast, by-none}
 use Rattle.tables.specs.Tables.{routeTable, routesOf}
-use Rattle.tables.specs.Entries.{entered}
 use borrow.Author.Tests.{not-true, not-false}
-use mathlib.Core.Path.{_≡_, sym, _∙_, ap}
+use mathlib.Core.Path.{sym, _∙_, ap}
 use borrow.Author.Needs.{needs}
 use Rattle.tables.proofs.route.RouteTable.default_by.Statement.{statement}
 use Rattle.tables.proofs.route.RouteTable.default_by.Tie as tie
-use Rattle.tables.proofs.route.RouteTable.default_by.Reads as reads
-use Rattle.tables.proofs.route.RouteTable.default_by.Lts as lts
-use Rattle.octets.proofs.address.x_is_unicast.Reads as x-is-unicast-reads
-use Rattle.tables.proofs.route.RouteTable.with.Reads as with-reads
 
--- src/apply.rt:103:13
 x-is-unicast-requires : tie.Need-x-is-unicast-requires
 x-is-unicast-requires c κs = search needs
 
--- src/apply.rt:104:13
 returns : tie.Need-returns
 returns c =
     rw (by-none (c .before .before .args .router) (sym (c .before .x-is-unicast .ensures) ∙ not-true _ (c .if1 .taken))) (c .before .before .pre ∙ ap routeTable (sym (entered-none (routesOf (c .before .before .args .self)))))
 
--- src/apply.rt:106:9
 with-requires : tie.Need-with-requires
 with-requires c κs = search needs
 
--- src/apply.rt:99:5
 returns-2 : tie.Need-returns-2
 returns-2 c =
     rw (by-unicast (c .before .before .before .args .router) (sym (c .before .before .x-is-unicast .ensures) ∙ not-false _ (c .before .if1 .left))) (c .with .ensures)

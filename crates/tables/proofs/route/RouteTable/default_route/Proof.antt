@@ -7,16 +7,12 @@ use Rattle.tables.specs.Tables.{zeroRoute}
 use Rattle.tables.specs.Entries.{first}
 use lib.ListN.{length, length-map}
 use mathlib.Core.List.{List}
-use mathlib.Core.Path.{_≡_, refl, sym, _∙_, ap}
+use mathlib.Core.Path.{_≡_, sym, _∙_, ap}
 use Prim.Native.Nat.{_-_}
 use borrow.Author.Needs.{needs}
 use native.Mathlib.Omega.{arith}
 use Rattle.tables.proofs.route.RouteTable.default_route.Statement.{statement}
 use Rattle.tables.proofs.route.RouteTable.default_route.Tie as tie
-use Rattle.tables.proofs.route.RouteTable.default_route.Reads as reads
-use Rattle.tables.proofs.route.RouteTable.default_route.Lts as lts
-use Rattle.tables.proofs.route.Route.is_default.Reads as is-default-reads
-use Rattle.tables.proofs.tables.in_use.Reads as in-use-reads
 
 abbrev firstDefault : List Route → RouteAt
 firstDefault xs = routeOr (first isDefault xs)
@@ -30,45 +26,35 @@ abbrev μ-loop : tie.MeasureT-loop
 size : (c : tie.Start Inv-loop μ-loop) → length (c .args .self .entries) ≡ 4
 size c = simp length-map at (c .good .0 .1 .1 .0 .1 .0 .1)
 
--- src/route.rt:138:13
 in-use-requires : tie.Need-in-use-requires Inv-loop μ-loop
 in-use-requires c κs = search needs
 
--- src/route.rt:140:9
 loop-holds : tie.Need-loop-holds Inv-loop μ-loop
 loop-holds c = sets-out firstDefault zeroRoute _ _ (size (c .before .before)) (omega arith)
 
--- src/route.rt:141:25
 mul-entry : tie.Need-mul-entry Inv-loop μ-loop
 mul-entry c = search needs
 
--- src/route.rt:141:25
 array-copy-out-entry : tie.Need-array-copy-out-entry Inv-loop μ-loop
 array-copy-out-entry c = search needs
 
--- src/route.rt:142:16
 is-default-requires : tie.Need-is-default-requires Inv-loop μ-loop
 is-default-requires c κs = search needs
 
--- src/route.rt:143:17
 returns : tie.Need-returns Inv-loop μ-loop
 returns c =
     sym (in-used firstDefault _ _ _ (c .before .before .before .before .loop .inv .long) (c .before .before .before .before .before .in-use .ensures) ∙ found firstDefault zeroRoute _ _ (c .before .before .before .before .loop .i) (c .before .before .before .before .loop .inv) (c .before .before .before .loop-test .taken) _ (λ xs. ap routeOr (first-is isDefault _ xs (sym (c .before .is-default .ensures) ∙ c .if1 .taken))))
 
--- src/route.rt:145:13
 add-i : tie.Need-add-i Inv-loop μ-loop
 add-i c = search needs
 
--- src/route.rt:140:9
 loop-less : tie.Need-loop-less Inv-loop μ-loop
 loop-less c = search needs
 
--- src/route.rt:140:9
 loop-again : tie.Need-loop-again Inv-loop μ-loop
 loop-again c =
     goes-on firstDefault zeroRoute _ _ (c .before .before .before .before .loop .i) (c .before .before .before .before .loop .inv) (c .before .before .before .loop-test .taken) (λ xs. ap routeOr (first-passes isDefault _ xs (sym (c .before .is-default .ensures) ∙ c .if1 .left)))
 
--- src/route.rt:134:5
 returns-2 : tie.Need-returns-2 Inv-loop μ-loop
 unfolding first
 returns-2 c =

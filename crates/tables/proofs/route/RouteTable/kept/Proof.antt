@@ -1,19 +1,14 @@
 use Rattle.tables.proofs.Loops.{Taken, starts, passes, takes, taken-all}
-use Rattle.tables.specs.Entries.{only}
 use Rattle.tables.specs.Changes.{routeKept}
-use Rattle.tables.specs.Tables.{zeroRoute, routeTable}
+use Rattle.tables.specs.Tables.{zeroRoute}
 use lib.ListN.{length, length-map}
 use mathlib.Core.Logic.{⊎-elim}
-use mathlib.Core.Path.{_≡_, sym, ap, _∙_}
+use mathlib.Core.Path.{_≡_, sym, _∙_}
 use Prim.Native.Nat.{_-_}
 use native.Mathlib.Omega.{arith}
 use borrow.Author.Needs.{needs}
 use Rattle.tables.proofs.route.RouteTable.kept.Statement.{statement}
 use Rattle.tables.proofs.route.RouteTable.kept.Tie as tie
-use Rattle.tables.proofs.route.RouteTable.kept.Reads as reads
-use Rattle.tables.proofs.route.RouteTable.kept.Lts as lts
-use Rattle.tables.proofs.route.Route.stays.Reads as stays-reads
-use Rattle.tables.proofs.tables.in_use.Reads as in-use-reads
 
 abbrev Inv-loop : tie.InvT-loop
 Inv-loop out entries n kept₀ k₀ i₀ kept k i = Taken (routeKept out) zeroRoute entries n kept k i
@@ -24,47 +19,36 @@ abbrev μ-loop : tie.MeasureT-loop
 size : (c : tie.Start Inv-loop μ-loop) → length (c .args .self .entries) ≡ 4
 size c = simp length-map at (c .good .0 .1 .1 .0 .1 .0 .1)
 
--- src/route.rt:73:13
 in-use-requires : tie.Need-in-use-requires Inv-loop μ-loop
 in-use-requires c κs = search needs
 
--- src/route.rt:82:9
 loop-holds : tie.Need-loop-holds Inv-loop μ-loop
 loop-holds c = starts (routeKept (c .before .before .args .out)) zeroRoute zeroRoute _ _ (size (c .before .before)) (omega arith)
 
--- src/route.rt:83:25
 mul-entry : tie.Need-mul-entry Inv-loop μ-loop
 mul-entry c = search needs
 
--- src/route.rt:83:25
 array-copy-out-entry : tie.Need-array-copy-out-entry Inv-loop μ-loop
 array-copy-out-entry c = search needs
 
--- src/route.rt:84:16
 stays-requires : tie.Need-stays-requires Inv-loop μ-loop
 stays-requires c κs = search needs
 
--- src/route.rt:85:17
 mul-kept : tie.Need-mul-kept Inv-loop μ-loop
 mul-kept c = search needs
 
--- src/route.rt:85:17
 array-set-from-kept : tie.Need-array-set-from-kept Inv-loop μ-loop
 array-set-from-kept c = omega arith
 
--- src/route.rt:86:17
 add-k : tie.Need-add-k Inv-loop μ-loop
 add-k c = search needs
 
--- src/route.rt:88:13
 add-i : tie.Need-add-i Inv-loop μ-loop
 add-i c = search needs
 
--- src/route.rt:82:9
 loop-less : tie.Need-loop-less Inv-loop μ-loop
 loop-less c = search needs
 
--- src/route.rt:82:9
 loop-again : tie.Need-loop-again Inv-loop μ-loop
 loop-again c =
     let l = c .before .before .before .before .loop in
@@ -74,7 +58,6 @@ loop-again c =
     (λ w. rw (w .1, w .2) (passes (routeKept (c .before .before .before .before .before .before .before .args .out)) zeroRoute zeroRoute _ _ (l .kept) (l .k) (l .i) (l .inv) h (sym (c .before .stays .ensures) ∙ w .0 .left)))
     (c .if1 .came)
 
--- src/route.rt:69:5
 returns : tie.Need-returns Inv-loop μ-loop
 returns c =
     let l = c .before .loop in

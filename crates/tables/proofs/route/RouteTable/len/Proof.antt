@@ -4,18 +4,13 @@ use mathlib.Core.Path.{_≡_}
 use borrow.Author.Needs.{needs}
 use Rattle.tables.proofs.route.RouteTable.len.Statement.{statement}
 use Rattle.tables.proofs.route.RouteTable.len.Tie as tie
-use Rattle.tables.proofs.route.RouteTable.len.Reads as reads
-use Rattle.tables.proofs.route.RouteTable.len.Lts as lts
-use Rattle.tables.proofs.tables.in_use.Reads as in-use-reads
 
 size : (c : tie.Start) → length (c .args .self .entries) ≡ 4
 size c = simp length-map at (c .good .0 .1 .1 .0 .1 .0 .1)
 
--- src/route.rt:118:9
 in-use-requires : tie.Need-in-use-requires
 in-use-requires c κs = search needs
 
--- src/route.rt:115:5
 returns : tie.Need-returns
 returns c =
     length-in-use (c .in-use .result) (c .before .args .self .count) (c .before .args .self .entries) (size (c .before)) (c .in-use .ensures)

@@ -9,29 +9,22 @@ use native.Mathlib.Omega.{arith}
 use borrow.Author.Needs.{needs}
 use Rattle.tables.proofs.route.RouteTable.with.Statement.{statement}
 use Rattle.tables.proofs.route.RouteTable.with.Tie as tie
-use Rattle.tables.proofs.route.RouteTable.with.Reads as reads
-use Rattle.tables.proofs.route.RouteTable.with.Lts as lts
 
--- src/route.rt:103:13
 returns : tie.Need-returns
 returns c =
     let self = c .before .args .self in
     let l : self .count ≡ length (routesOf self) = ap (λ (t : RouteTable). t .count) (c .before .pre) in
     c .before .pre ∙ ap routeTable (sym (entered-full (routesOf self) (c .before .args .entry ∷ []) (omega arith)))
 
--- src/route.rt:106:9
 mul-entries : tie.Need-mul-entries
 mul-entries c = search needs
 
--- src/route.rt:106:9
 array-set-from-entries : tie.Need-array-set-from-entries
 array-set-from-entries c = search needs
 
--- src/route.rt:109:20
 add-t6 : tie.Need-add-t6
 add-t6 c = search needs
 
--- src/route.rt:97:5
 returns-2 : tie.Need-returns-2
 returns-2 c =
     let self = c .before .before .args .self in

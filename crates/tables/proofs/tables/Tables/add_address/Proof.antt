@@ -11,61 +11,43 @@ use lib.ListN.{length}
 use borrow.Author.Tests.{le-leb, lt-leb}
 use native.Mathlib.Omega.{arith}
 use mathlib.Core.Bool.{not, true}
-use mathlib.Core.Path.{sym, ap, _∙_, _≡_}
+use mathlib.Core.Path.{sym, ap, _∙_}
 use borrow.Author.Needs.{needs}
 use Rattle.tables.proofs.tables.Tables.add_address.Statement.{statement}
 use Rattle.tables.proofs.tables.Tables.add_address.Tie as tie
-use Rattle.tables.proofs.tables.Tables.add_address.Reads as reads
-use Rattle.tables.proofs.tables.Tables.add_address.Lts as lts
-use Rattle.tables.proofs.address.AddrTable.kept.Reads as kept-reads
-use Rattle.tables.proofs.address.AddrTable.len.Reads as len-reads
-use Rattle.tables.proofs.address.AddrTable.with.Reads as with-reads
-use Rattle.tables.proofs.tables.Tables.admits.Reads as admits-reads
-use Rattle.tables.proofs.tables.Tables.changed.Reads as changed-reads
-use Rattle.tables.proofs.tables.Tables.refused.Reads as refused-reads
 
--- src/manual.rt:31:13
 admits-requires : tie.Need-admits-requires
 admits-requires c κs = search needs
 
--- src/manual.rt:32:13
 refused-requires : tie.Need-refused-requires
 refused-requires c κs = search needs
 
--- src/manual.rt:32:13
 returns : tie.Need-returns
 unfolding addAddress
 returns c = if-true _ (ap not (sym (c .before .before .admits .ensures)) ∙ c .before .if1 .taken) (c .refused .ensures)
 
--- src/manual.rt:35:22
 len-requires : tie.Need-len-requires
 len-requires c κs = search needs
 
--- src/manual.rt:36:13
 refused-requires-2 : tie.Need-refused-requires-2
 refused-requires-2 c κs = search needs
 
--- src/manual.rt:36:13
 returns-2 : tie.Need-returns-2
 unfolding addAddress
 returns-2 c =
     let h : places ≤ length (addrsOf (c .before .before .before .before .before .before .args .self .«ip_addrs»)) = omega (arith, c .before .before .len .ensures, c .before .if2 .taken) in
     if-false _ (ap not (sym (c .before .before .before .before .before .admits .ensures)) ∙ c .before .before .before .before .if1 .left) (if-true _ (le-leb _ _ h) (c .refused2 .ensures))
 
--- src/manual.rt:38:13
 kept-requires : tie.Need-kept-requires
 kept-requires c κs = search needs
 
--- src/manual.rt:39:13
 with-requires : tie.Need-with-requires
 with-requires c κs =
     addrs-rewritten _ (only (λ (a : IfaceAddr). true) (addrsOf (c .before .before .before .before .before .before .args .self .«ip_addrs»))) (c .kept .ensures)
 
--- src/manual.rt:45:9
 changed-requires : tie.Need-changed-requires
 changed-requires c κs = search needs
 
--- src/manual.rt:28:5
 returns-3 : tie.Need-returns-3
 unfolding addAddress
 returns-3 c =

@@ -10,56 +10,38 @@ use lib.ListN.{length}
 use borrow.Author.Tests.{le-leb, lt-leb, leb-true, leb-false}
 use native.Mathlib.Omega.{arith}
 use mathlib.Core.Bool.{not, true}
-use mathlib.Core.Path.{sym, ap, _∙_, _≡_}
+use mathlib.Core.Path.{sym, ap, _∙_}
 use borrow.Author.Needs.{needs}
 use Rattle.tables.proofs.tables.Tables.add_route.Statement.{statement}
 use Rattle.tables.proofs.tables.Tables.add_route.Tie as tie
-use Rattle.tables.proofs.tables.Tables.add_route.Reads as reads
-use Rattle.tables.proofs.tables.Tables.add_route.Lts as lts
-use Rattle.octets.proofs.address.x_is_unicast.Reads as x-is-unicast-reads
-use Rattle.tables.proofs.route.RouteTable.kept.Reads as kept-reads
-use Rattle.tables.proofs.route.RouteTable.len.Reads as len-reads
-use Rattle.tables.proofs.route.RouteTable.with.Reads as with-reads
-use Rattle.tables.proofs.tables.Tables.admits.Reads as admits-reads
-use Rattle.tables.proofs.tables.Tables.changed.Reads as changed-reads
-use Rattle.tables.proofs.tables.Tables.refused.Reads as refused-reads
 
--- src/manual.rt:65:13
 admits-requires : tie.Need-admits-requires
 admits-requires c κs = search needs
 
--- src/manual.rt:66:13
 refused-requires : tie.Need-refused-requires
 refused-requires c κs = search needs
 
--- src/manual.rt:66:13
 returns : tie.Need-returns
 unfolding addRoute
 returns c = if-true _ (ap not (sym (c .before .before .admits .ensures)) ∙ c .before .if1 .taken) (c .refused .ensures)
 
--- src/manual.rt:69:30
 len-requires : tie.Need-len-requires
 len-requires c κs = search needs
 
--- src/manual.rt:70:13
 x-is-unicast-requires : tie.Need-x-is-unicast-requires
 x-is-unicast-requires c κs = search needs
 
--- src/manual.rt:71:13
 refused-requires-2 : tie.Need-refused-requires-2
 refused-requires-2 c κs = search needs
 
--- src/manual.rt:71:13
 returns-2 : tie.Need-returns-2
 unfolding addRoute
 returns-2 c =
     if-false _ (ap not (sym (c .before .before .before .before .before .before .admits .ensures)) ∙ c .before .before .before .before .before .if1 .left) (if-true _ (ap not (sym (c .before .before .x-is-unicast .ensures)) ∙ c .before .if2 .taken) (c .refused2 .ensures))
 
--- src/manual.rt:74:13
 refused-requires-3 : tie.Need-refused-requires-3
 refused-requires-3 c κs = search needs
 
--- src/manual.rt:74:13
 returns-3 : tie.Need-returns-3
 unfolding addRoute
 returns-3 c =
@@ -68,20 +50,16 @@ returns-3 c =
     (if-false _ (ap not (sym (c .before .before .before .x-is-unicast .ensures)) ∙ c .before .before .if2 .left)
     (if-true _ (le-leb _ _ h) (c .refused3 .ensures)))
 
--- src/manual.rt:76:13
 kept-requires : tie.Need-kept-requires
 kept-requires c κs = search needs
 
--- src/manual.rt:77:13
 with-requires : tie.Need-with-requires
 with-requires c κs =
     routes-rewritten _ (only (λ (a : Route). true) (routesOf (c .before .before .before .before .before .before .before .before .args .self .routes))) (c .kept .ensures)
 
--- src/manual.rt:84:9
 changed-requires : tie.Need-changed-requires
 changed-requires c κs = search needs
 
--- src/manual.rt:62:5
 returns-4 : tie.Need-returns-4
 unfolding addRoute
 returns-4 c =

@@ -5,25 +5,17 @@ use mathlib.Core.Path.{refl, sym, ap, _∙_}
 use borrow.Author.Needs.{needs}
 use Rattle.tables.proofs.tables.Tables.addr_at.Statement.{statement}
 use Rattle.tables.proofs.tables.Tables.addr_at.Tie as tie
-use Rattle.tables.proofs.tables.Tables.addr_at.Reads as reads
-use Rattle.tables.proofs.tables.Tables.addr_at.Lts as lts
-use Rattle.tables.proofs.address.AddrTable.at.Reads as at-reads
-use Rattle.tables.proofs.tables.Tables.is_whole.Reads as is-whole-reads
 
--- src/lookup.rt:61:13
 is-whole-requires : tie.Need-is-whole-requires
 is-whole-requires c κs = search needs
 
--- src/lookup.rt:62:13
 returns : tie.Need-returns
 unfolding addrAt
 returns c = if-true _ (ap not (sym (c .before .is-whole .ensures)) ∙ c .if1 .taken) refl
 
--- src/lookup.rt:65:9
 at-requires : tie.Need-at-requires
 at-requires c κs = search needs
 
--- src/lookup.rt:58:5
 returns-2 : tie.Need-returns-2
 unfolding addrAt
 returns-2 c = if-false _ (ap not (sym (c .before .before .before .is-whole .ensures)) ∙ c .before .before .if1 .left) (c .at .ensures)

@@ -6,25 +6,17 @@ use mathlib.Core.Path.{refl, sym, ap, _∙_}
 use borrow.Author.Needs.{needs}
 use Rattle.tables.proofs.tables.Tables.addr_count.Statement.{statement}
 use Rattle.tables.proofs.tables.Tables.addr_count.Tie as tie
-use Rattle.tables.proofs.tables.Tables.addr_count.Reads as reads
-use Rattle.tables.proofs.tables.Tables.addr_count.Lts as lts
-use Rattle.tables.proofs.address.AddrTable.len.Reads as len-reads
-use Rattle.tables.proofs.tables.Tables.is_whole.Reads as is-whole-reads
 
--- src/lookup.rt:39:13
 is-whole-requires : tie.Need-is-whole-requires
 is-whole-requires c κs = search needs
 
--- src/lookup.rt:40:13
 returns : tie.Need-returns
 unfolding addrCount
 returns c = if-true _ (ap not (sym (c .before .is-whole .ensures)) ∙ c .if1 .taken) refl
 
--- src/lookup.rt:43:24
 len-requires : tie.Need-len-requires
 len-requires c κs = search needs
 
--- src/lookup.rt:36:5
 returns-2 : tie.Need-returns-2
 unfolding addrCount
 returns-2 c =

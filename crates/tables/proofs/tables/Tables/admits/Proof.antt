@@ -4,20 +4,14 @@ use mathlib.Core.Path.{refl, sym, _∙_}
 use borrow.Author.Needs.{needs}
 use Rattle.tables.proofs.tables.Tables.admits.Statement.{statement}
 use Rattle.tables.proofs.tables.Tables.admits.Tie as tie
-use Rattle.tables.proofs.tables.Tables.admits.Reads as reads
-use Rattle.tables.proofs.tables.Tables.admits.Lts as lts
-use Rattle.tables.proofs.tables.Tables.is_whole.Reads as is-whole-reads
 
--- src/manual.rt:103:12
 is-whole-requires : tie.Need-is-whole-requires
 is-whole-requires c κs = search needs
 
--- src/manual.rt:104:13
 returns : tie.Need-returns
 unfolding admitted
 returns c = if-true _ (sym (c .before .is-whole .ensures) ∙ c .if1 .taken) refl
 
--- src/manual.rt:100:5
 returns-2 : tie.Need-returns-2
 unfolding admitted
 returns-2 c = if-false _ (sym (c .before .is-whole .ensures) ∙ c .if1 .left) refl

@@ -5,25 +5,17 @@ use mathlib.Core.Path.{refl, sym, ap, _∙_}
 use borrow.Author.Needs.{needs}
 use Rattle.tables.proofs.tables.Tables.default_ipv4_route.Statement.{statement}
 use Rattle.tables.proofs.tables.Tables.default_ipv4_route.Tie as tie
-use Rattle.tables.proofs.tables.Tables.default_ipv4_route.Reads as reads
-use Rattle.tables.proofs.tables.Tables.default_ipv4_route.Lts as lts
-use Rattle.tables.proofs.route.RouteTable.default_route.Reads as default-route-reads
-use Rattle.tables.proofs.tables.Tables.is_whole.Reads as is-whole-reads
 
--- src/lookup.rt:101:13
 is-whole-requires : tie.Need-is-whole-requires
 is-whole-requires c κs = search needs
 
--- src/lookup.rt:102:13
 returns : tie.Need-returns
 unfolding defaultRouteOf
 returns c = if-true _ (ap not (sym (c .before .is-whole .ensures)) ∙ c .if1 .taken) refl
 
--- src/lookup.rt:105:9
 default-route-requires : tie.Need-default-route-requires
 default-route-requires c κs = search needs
 
--- src/lookup.rt:98:5
 returns-2 : tie.Need-returns-2
 unfolding defaultRouteOf
 returns-2 c =

@@ -6,35 +6,23 @@ use mathlib.Core.Path.{sym, ap, _∙_}
 use borrow.Author.Needs.{needs}
 use Rattle.tables.proofs.tables.Tables.drop_address.Statement.{statement}
 use Rattle.tables.proofs.tables.Tables.drop_address.Tie as tie
-use Rattle.tables.proofs.tables.Tables.drop_address.Reads as reads
-use Rattle.tables.proofs.tables.Tables.drop_address.Lts as lts
-use Rattle.tables.proofs.address.AddrTable.kept.Reads as kept-reads
-use Rattle.tables.proofs.tables.Tables.admits.Reads as admits-reads
-use Rattle.tables.proofs.tables.Tables.changed.Reads as changed-reads
-use Rattle.tables.proofs.tables.Tables.refused.Reads as refused-reads
 
--- src/manual.rt:52:13
 admits-requires : tie.Need-admits-requires
 admits-requires c κs = search needs
 
--- src/manual.rt:53:13
 refused-requires : tie.Need-refused-requires
 refused-requires c κs = search needs
 
--- src/manual.rt:53:13
 returns : tie.Need-returns
 unfolding dropAddress
 returns c = if-true _ (ap not (sym (c .before .before .admits .ensures)) ∙ c .before .if1 .taken) (c .refused .ensures)
 
--- src/manual.rt:56:13
 kept-requires : tie.Need-kept-requires
 kept-requires c κs = search needs
 
--- src/manual.rt:58:9
 changed-requires : tie.Need-changed-requires
 changed-requires c κs = search needs
 
--- src/manual.rt:49:5
 returns-2 : tie.Need-returns-2
 unfolding dropAddress
 returns-2 c =

@@ -5,35 +5,23 @@ use mathlib.Core.Path.{sym, ap, _∙_}
 use borrow.Author.Needs.{needs}
 use Rattle.tables.proofs.tables.Tables.drop_route.Statement.{statement}
 use Rattle.tables.proofs.tables.Tables.drop_route.Tie as tie
-use Rattle.tables.proofs.tables.Tables.drop_route.Reads as reads
-use Rattle.tables.proofs.tables.Tables.drop_route.Lts as lts
-use Rattle.tables.proofs.route.RouteTable.kept.Reads as kept-reads
-use Rattle.tables.proofs.tables.Tables.admits.Reads as admits-reads
-use Rattle.tables.proofs.tables.Tables.changed.Reads as changed-reads
-use Rattle.tables.proofs.tables.Tables.refused.Reads as refused-reads
 
--- src/manual.rt:90:13
 admits-requires : tie.Need-admits-requires
 admits-requires c κs = search needs
 
--- src/manual.rt:91:13
 refused-requires : tie.Need-refused-requires
 refused-requires c κs = search needs
 
--- src/manual.rt:91:13
 returns : tie.Need-returns
 unfolding dropRoute
 returns c = if-true _ (ap not (sym (c .before .before .admits .ensures)) ∙ c .before .if1 .taken) (c .refused .ensures)
 
--- src/manual.rt:94:13
 kept-requires : tie.Need-kept-requires
 kept-requires c κs = search needs
 
--- src/manual.rt:100:9
 changed-requires : tie.Need-changed-requires
 changed-requires c κs = search needs
 
--- src/manual.rt:87:5
 returns-2 : tie.Need-returns-2
 unfolding dropRoute
 returns-2 c =

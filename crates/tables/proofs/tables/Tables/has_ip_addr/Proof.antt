@@ -5,31 +5,22 @@ use mathlib.Core.Path.{refl, sym, ap, _∙_}
 use borrow.Author.Needs.{needs}
 use Rattle.tables.proofs.tables.Tables.has_ip_addr.Statement.{statement}
 use Rattle.tables.proofs.tables.Tables.has_ip_addr.Tie as tie
-use Rattle.tables.proofs.tables.Tables.has_ip_addr.Reads as reads
-use Rattle.tables.proofs.tables.Tables.has_ip_addr.Lts as lts
-use Rattle.tables.proofs.address.AddrTable.has.Reads as has-reads
-use Rattle.tables.proofs.tables.Tables.is_whole.Reads as is-whole-reads
 
--- src/lookup.rt:87:13
 is-whole-requires : tie.Need-is-whole-requires
 is-whole-requires c κs = search needs
 
--- src/lookup.rt:88:13
 returns : tie.Need-returns
 unfolding hasAddr
 returns c = if-true _ (ap not (sym (c .before .is-whole .ensures)) ∙ c .if1 .taken) refl
 
--- src/lookup.rt:91:12
 has-requires : tie.Need-has-requires
 has-requires c κs = search needs
 
--- src/lookup.rt:92:13
 returns-2 : tie.Need-returns-2
 unfolding hasAddr
 returns-2 c =
     if-false _ (ap not (sym (c .before .before .before .before .is-whole .ensures)) ∙ c .before .before .before .if1 .left) (if-true _ (sym (c .before .has .ensures) ∙ c .if2 .taken) refl)
 
--- src/lookup.rt:84:5
 returns-3 : tie.Need-returns-3
 unfolding hasAddr
 returns-3 c =

@@ -6,25 +6,17 @@ use mathlib.Core.Path.{refl, sym, ap, _∙_}
 use borrow.Author.Needs.{needs}
 use Rattle.tables.proofs.tables.Tables.route_count.Statement.{statement}
 use Rattle.tables.proofs.tables.Tables.route_count.Tie as tie
-use Rattle.tables.proofs.tables.Tables.route_count.Reads as reads
-use Rattle.tables.proofs.tables.Tables.route_count.Lts as lts
-use Rattle.tables.proofs.route.RouteTable.len.Reads as len-reads
-use Rattle.tables.proofs.tables.Tables.is_whole.Reads as is-whole-reads
 
--- src/lookup.rt:50:13
 is-whole-requires : tie.Need-is-whole-requires
 is-whole-requires c κs = search needs
 
--- src/lookup.rt:51:13
 returns : tie.Need-returns
 unfolding routeCount
 returns c = if-true _ (ap not (sym (c .before .is-whole .ensures)) ∙ c .if1 .taken) refl
 
--- src/lookup.rt:54:24
 len-requires : tie.Need-len-requires
 len-requires c κs = search needs
 
--- src/lookup.rt:47:5
 returns-2 : tie.Need-returns-2
 unfolding routeCount
 returns-2 c =
