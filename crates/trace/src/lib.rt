@@ -1,0 +1,13 @@
+// Records of calls and answers, as text (docs/TRACE.md): lines, what a line begins with, the values in a line by its
+// form, and the octets that a line writes as digits.
+//
+// Reading is strict: a line that departs from its form by one character does not fit it. Any text, form and place has
+// an answer.
+
+mod digit;
+mod line;
+mod number;
+
+pub use digit::octet_at;
+pub use line::begins;
+pub use line::line_len;
