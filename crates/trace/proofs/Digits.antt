@@ -51,3 +51,14 @@ unfolding pairsOf
 pairs-short [] h = refl
 pairs-short (a ∷ []) h = refl
 pairs-short (a ∷ b ∷ t) h = absurd (omega arith)
+
+-- they stand in the text, of two characters each
+pub pairs-inside : (t : List ℕ) → 2 * pairsOf t ≤ length t
+unfolding pairsOf
+pairs-inside [] = omega arith
+pairs-inside (a ∷ []) = omega arith
+pairs-inside (a ∷ b ∷ t) = by (octetOf a b) (pairs-inside t)
+  where
+    by : (m : MaybeNumber) → 2 * pairsOf t ≤ length t → 2 * (elim m [ None ↦ 0 | Some octet ↦ suc (pairsOf t) ]) ≤ suc (suc (length t))
+    by None h = omega arith
+    by (Some v) h = omega arith

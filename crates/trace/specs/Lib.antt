@@ -1,3 +1,5 @@
 pub mod Lines
 pub mod Digits
 pub mod Numbers
+pub mod Forms
+pub mod Records

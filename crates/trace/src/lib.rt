@@ -5,9 +5,13 @@
 // an answer.
 
 mod digit;
+mod gap;
 mod line;
 mod number;
+mod record;
 
 pub use digit::octet_at;
 pub use line::begins;
 pub use line::line_len;
+pub use record::Record;
+pub use record::read_record;
