@@ -1,17 +1,15 @@
 -- Laws of forms and of what their parts take of a text. Assumes nothing.
-use Prim.Native.Nat.{ℕ, suc, _+_, _-_, _*_, _≤_, _<_}
+use Prim.Native.Nat.{ℕ, _*_, _≤_, _<_}
 use mathlib.Core.Bool.{Bool, true, false, true≢false}
-use mathlib.Core.Path.{_≡_, refl, sym, ap, subst, _∙_}
+use mathlib.Core.Path.{_≡_, refl, ap}
 use mathlib.Core.List.{List, [], _∷_}
 use native.Mathlib.Omega.{arith}
 use lib.ListN.{length, getD, drop, List·getD-eq-default}
 use lib.Dec.{eqb, leb}
 use borrow.Author.Tests.{eq-eqb, ne-eqb, eqb-false}
 use Rattle.clock.specs.Choice.{if_then_else_}
-use Rattle.octets.specs.declared.number.MaybeNumber.{MaybeNumber}
-use Rattle.octets.specs.declared.number.MaybeNumber.the-variants.{None, Some}
 use Rattle.trace.specs.Lines.{startsWith}
-use Rattle.trace.specs.Digits.{octetOf, pairsOf}
+use Rattle.trace.specs.Digits.{pairsOf}
 use Rattle.trace.specs.Numbers.{decimal, dotted, address, sizeOf}
 use Rattle.trace.specs.Forms.{percent, charA, charX, Part, letter, gap, partsOf, limitOf, numberOf, ofNumber, octetsTaken, gapTaken, letterTaken, taken, headPart, partSize}
 use Rattle.trace.specs.declared.number.Number.{Number}

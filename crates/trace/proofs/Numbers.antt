@@ -12,7 +12,7 @@ use Rattle.octets.proofs.Runs.{part-tail}
 use Rattle.clock.specs.Choice.{if_then_else_}
 use Rattle.trace.specs.Lines.{startsWith}
 use Rattle.trace.specs.Digits.{digitOf}
-use Rattle.trace.specs.Numbers.{digitsOf, numberFrom, proper, within, decimal, joined, dot, dotted, address, valueOf, sizeOf, Bounded}
+use Rattle.trace.specs.Numbers.{digitsOf, numberFrom, proper, within, decimal, joined, dot, dotted, Bounded}
 use Rattle.trace.specs.declared.number.Number.{Number}
 use Rattle.trace.specs.declared.number.Number.the-variants.{Stopped, Read}
 

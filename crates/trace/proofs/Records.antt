@@ -1,7 +1,7 @@
 -- Laws of the walk along a form. Assumes nothing.
-use Prim.Native.Nat.{ℕ, zero, suc, _+_, _-_, _*_, _≤_, _<_}
-use mathlib.Core.Bool.{true, false}
-use mathlib.Core.Path.{_≡_, refl, sym, ap, subst, _∙_}
+use Prim.Native.Nat.{ℕ, zero, suc, _+_, _*_, _≤_, _<_}
+use mathlib.Core.Bool.{true}
+use mathlib.Core.Path.{_≡_, refl, sym, ap, _∙_}
 use mathlib.Core.List.{List, [], _∷_, _++_, append-assoc}
 use native.Mathlib.Omega.{arith}
 use lib.Dec.{leb}
@@ -97,7 +97,7 @@ module _ {line form t f kept : List ℕ} {count place : ℕ} (w : Walked line fo
     whole = onward s ∙ (λ k. walk (partsOf (sym ef k)) (w .values) (place + 1) (sym et k));
   }
 
-  pub walked-value : {n v size : ℕ} {t′ f′ : List ℕ} → Step t f n (Value v size) → count < mostValues → t′ ≡ drop size t → f′ ≡ drop n f
+  pub walked-value : {n v size : ℕ} {t′ f′ : List ℕ} → Step t f n (Value v size) → count + 1 ≤ mostValues → t′ ≡ drop size t → f′ ≡ drop n f
       → Walked line form t′ f′ (set kept count v) (count + 1) (place + size)
   walked-value {n} {v} {size} s h et ef = record {
     values = w .values ++ (v ∷ []);
@@ -108,7 +108,7 @@ module _ {line form t f kept : List ℕ} {count place : ℕ} (w : Walked line fo
     whole = onward s ∙ sym (if-true _ (le-leb (length (w .values) + 1) mostValues (omega (arith, w .counted))) refl) ∙ (λ k. walk (partsOf (sym ef k)) (w .values ++ (v ∷ [])) (place + size) (sym et k));
   }
 
-  pub walked-octets : {n pairs : ℕ} {t′ f′ : List ℕ} → Step t f n (Octets pairs) → count + 1 < mostValues → t′ ≡ drop (2 * pairs) t → f′ ≡ drop n f
+  pub walked-octets : {n pairs : ℕ} {t′ f′ : List ℕ} → Step t f n (Octets pairs) → count + 2 ≤ mostValues → t′ ≡ drop (2 * pairs) t → f′ ≡ drop n f
       → Walked line form t′ f′ (set (set kept count place) (count + 1) pairs) (count + 2) (place + 2 * pairs)
   walked-octets {n} {pairs} s h et ef = record {
     values = w .values ++ (place ∷ pairs ∷ []);
@@ -132,10 +132,10 @@ module _ {line form t f kept : List ℕ} {count place : ℕ} (w : Walked line fo
   pub walked-stop : {n size : ℕ} → Step t f n (Stopped size) → recordOf form line ≡ misfit (place + size)
   walked-stop s = onward s
 
-  pub walked-full : {n v size : ℕ} → Step t f n (Value v size) → mostValues ≤ count → recordOf form line ≡ misfit place
+  pub walked-full : {n v size : ℕ} → Step t f n (Value v size) → mostValues < count + 1 → recordOf form line ≡ misfit place
   walked-full s h = onward s ∙ sym (if-false _ (lt-leb (length (w .values) + 1) mostValues (omega (arith, w .counted))) refl)
 
-  pub walked-full-octets : {n pairs : ℕ} → Step t f n (Octets pairs) → mostValues ≤ count + 1 → recordOf form line ≡ misfit place
+  pub walked-full-octets : {n pairs : ℕ} → Step t f n (Octets pairs) → mostValues < count + 2 → recordOf form line ≡ misfit place
   walked-full-octets s h = onward s ∙ sym (if-false _ (lt-leb (length (w .values) + 2) mostValues (omega (arith, w .counted))) refl)
 
   pub walked-more : length f ≤ 0 → 0 < length t → recordOf form line ≡ misfit place

@@ -1,5 +1,5 @@
 -- Forms, and what each part of a form takes of a text (docs/TRACE.md, "Lines"): "its text, with a gap for each value".
-use Prim.Native.Nat.{ℕ, _-_, _*_, _^_}
+use Prim.Native.Nat.{ℕ, _-_, _^_}
 use mathlib.Core.List.{List, [], _∷_}
 use lib.ListN.{length, getD}
 use lib.Dec.{eqb, leb}

@@ -5,10 +5,13 @@ use crate::gap::Taken;
 use crate::gap::next_taken;
 use crate::gap::part_len;
 
+// A record has at most so many values.
+const MOST_VALUES: usize = 16;
+
 // What was read of a line: its values in order, zeros after them, and how many they are. `column` is the line's length,
 // or the place at which the line departs from its form; then there are no values.
 pub struct Record {
-    pub values: [u64; 16],
+    pub values: [u64; MOST_VALUES],
     pub count: usize,
     pub column: usize,
     pub fits: bool,
@@ -19,7 +22,7 @@ fn misfit(column: usize) -> Record
     ensures { λ r. ⌜ r ≡ misfit column ⌝ }
 {
     Record {
-        values: [0; 16],
+        values: [0; MOST_VALUES],
         count: 0,
         column,
         fits: false,
@@ -30,7 +33,7 @@ fn misfit(column: usize) -> Record
 pub fn read_record(line: &[u8], form: &[u8]) -> Record
     ensures { λ r. ⌜ r ≡ recordOf (now (form .entry)) (now (line .entry)) ⌝ }
 {
-    let mut values = [0u64; 16];
+    let mut values = [0u64; MOST_VALUES];
     let mut count: usize = 0;
     let mut at: usize = 0;
     let mut t = line;
@@ -44,7 +47,7 @@ pub fn read_record(line: &[u8], form: &[u8]) -> Record
                 f = &f[n..];
             }
             Taken::Value { value, len } => {
-                if 16 <= count {
+                if MOST_VALUES < count + 1 {
                     return misfit(at);
                 }
                 values[count] = value;
@@ -54,7 +57,7 @@ pub fn read_record(line: &[u8], form: &[u8]) -> Record
                 f = &f[n..];
             }
             Taken::Octets(pairs) => {
-                if 15 <= count {
+                if MOST_VALUES < count + 2 {
                     return misfit(at);
                 }
                 values[count] = at as u64;

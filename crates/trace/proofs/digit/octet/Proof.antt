@@ -3,7 +3,7 @@ use Prim.Native.Nat.{_<_, _≤_, _+_, _*_}
 use Rattle.trace.specs.Digits.{digitOf, octetOf}
 use native.Mathlib.Omega.{arith}
 use borrow.Author.Tests.{lt-ltb, le-ltb}
-use mathlib.Core.Path.{refl, _≡_}
+use mathlib.Core.Path.{refl}
 use Rattle.clock.proofs.Choices.{if-true, if-false}
 use borrow.Author.Needs.{needs}
 use Rattle.trace.proofs.digit.octet.Statement.{statement}

@@ -1,5 +1,5 @@
 use native.Mathlib.Omega.{arith}
-use mathlib.Core.Path.{sym, ap, _∙_}
+use mathlib.Core.Path.{ap, _∙_}
 use Rattle.trace.specs.Numbers.{dotted, address}
 use Rattle.trace.proofs.Numbers.{bounded-of, bounded-less, bounded-decimal, bounded-dotted}
 use borrow.Author.Needs.{needs}

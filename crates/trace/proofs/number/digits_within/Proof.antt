@@ -1,8 +1,7 @@
 use borrow.Author.Needs.{needs}
-use Prim.Native.Nat.{ℕ, _+_, _*_, _≤_, _<_}
+use Prim.Native.Nat.{_+_, _*_, _≤_}
 use lib.ListN.{length, drop, getD}
 use native.Mathlib.Omega.{arith}
-use mathlib.Core.List.{List}
 use mathlib.Core.Path.{_≡_, sym, ap, _∙_}
 use Rattle.octets.proofs.Runs.{part-tail}
 use Rattle.trace.specs.Digits.{digitOf}

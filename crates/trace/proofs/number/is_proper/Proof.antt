@@ -1,6 +1,6 @@
 use lib.Dec.{leb}
 use native.Mathlib.Omega.{arith}
-use mathlib.Core.Path.{_≡_, sym, ap, _∙_}
+use mathlib.Core.Path.{sym, ap, _∙_}
 use Rattle.trace.proofs.Numbers.{proper-none, proper-end, proper-plain, proper-one, proper-zero}
 use borrow.Author.Needs.{needs}
 use Rattle.trace.proofs.number.is_proper.Statement.{statement}

@@ -69,6 +69,9 @@ loop-again c = walked-letter (c .before .before .before .before .before .before 
 enum-known-value : tie.Need-enum-known-value Inv-loop μ-loop
 enum-known-value c = search needs
 
+add-if1 : tie.Need-add-if1 Inv-loop μ-loop
+add-if1 c = search needs
+
 misfit-requires : tie.Need-misfit-requires Inv-loop μ-loop
 misfit-requires c κs = search needs
 
@@ -109,16 +112,19 @@ loop-less-2 : tie.Need-loop-less-2 Inv-loop μ-loop
 loop-less-2 c = omega (arith, step-form (value-step (c .before .before .before)))
 
 loop-again-2 : tie.Need-loop-again-2 Inv-loop μ-loop
-loop-again-2 c = walked-value (c .before .before .before .before .before .before .before .before .before .loop .inv) (value-step (c .before .before .before)) (omega arith) (part-tail _ (c .before .before .before .before .before .before .before .before .before .loop .t .now)) (part-tail _ (c .before .before .before .before .before .before .before .before .before .loop .f .now))
+loop-again-2 c = walked-value (c .before .before .before .before .before .before .before .before .before .loop .inv) (value-step (c .before .before .before)) (c .before .before .if1 .left) (part-tail _ (c .before .before .before .before .before .before .before .before .before .loop .t .now)) (part-tail _ (c .before .before .before .before .before .before .before .before .before .loop .f .now))
 
 enum-known-pairs : tie.Need-enum-known-pairs Inv-loop μ-loop
 enum-known-pairs c = search needs
+
+add-if2 : tie.Need-add-if2 Inv-loop μ-loop
+add-if2 c = search needs
 
 misfit-requires-2 : tie.Need-misfit-requires-2 Inv-loop μ-loop
 misfit-requires-2 c κs = search needs
 
 returns-2 : tie.Need-returns-2 Inv-loop μ-loop
-returns-2 c = c .misfit2 .ensures ∙ sym (walked-full-octets (c .before .before .before .before .before .before .before .before .loop .inv) (octets-step (c .before .before)) (omega arith))
+returns-2 c = c .misfit2 .ensures ∙ sym (walked-full-octets (c .before .before .before .before .before .before .before .before .loop .inv) (octets-step (c .before .before)) (c .before .if2 .taken))
 
 mul-values-2 : tie.Need-mul-values-2 Inv-loop μ-loop
 mul-values-2 c = search needs
@@ -166,7 +172,7 @@ loop-less-3 : tie.Need-loop-less-3 Inv-loop μ-loop
 loop-less-3 c = omega (arith, step-form (octets-step (c .before .before .before)))
 
 loop-again-3 : tie.Need-loop-again-3 Inv-loop μ-loop
-loop-again-3 c = walked-octets (c .before .before .before .before .before .before .before .before .before .loop .inv) (octets-step (c .before .before .before)) (omega arith) (part-tail _ (c .before .before .before .before .before .before .before .before .before .loop .t .now)) (part-tail _ (c .before .before .before .before .before .before .before .before .before .loop .f .now))
+loop-again-3 c = walked-octets (c .before .before .before .before .before .before .before .before .before .loop .inv) (octets-step (c .before .before .before)) (c .before .before .if2 .left) (part-tail _ (c .before .before .before .before .before .before .before .before .before .loop .t .now)) (part-tail _ (c .before .before .before .before .before .before .before .before .before .loop .f .now))
 
 enum-known-len : tie.Need-enum-known-len Inv-loop μ-loop
 enum-known-len c = search needs
@@ -209,6 +215,7 @@ read-record-spec =
     loop-less
     loop-again
     enum-known-value
+    add-if1
     misfit-requires
     returns
     mul-values
@@ -224,6 +231,7 @@ read-record-spec =
     loop-less-2
     loop-again-2
     enum-known-pairs
+    add-if2
     misfit-requires-2
     returns-2
     mul-values-2
