@@ -3,3 +3,5 @@ pub mod Digits
 pub mod Numbers
 pub mod Forms
 pub mod Records
+pub mod Texts
+pub mod RoundTrips

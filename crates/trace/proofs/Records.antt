@@ -29,7 +29,7 @@ after parts values place line Letter = walk parts values (place + 1) (drop 1 lin
 after parts values place line (Value value size) = if leb (length values + 1) mostValues then walk parts (values ++ (value ∷ [])) (place + size) (drop size line) else misfit place
 after parts values place line (Octets count) = if leb (length values + 2) mostValues then walk parts (values ++ (place ∷ count ∷ [])) (place + 2 * count) (drop (2 * count) line) else misfit place
 
-walk-step : (part : Part) (parts : List Part) (values : List ℕ) (place : ℕ) (line : List ℕ) → walk (part ∷ parts) values place line ≡ after parts values place line (taken part line)
+pub walk-step : (part : Part) (parts : List Part) (values : List ℕ) (place : ℕ) (line : List ℕ) → walk (part ∷ parts) values place line ≡ after parts values place line (taken part line)
 unfolding walk
 walk-step part parts values place line = by (taken part line)
   where

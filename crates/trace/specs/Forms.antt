@@ -69,11 +69,13 @@ numberOf kind text =
       | Unknown ↦ number.Stopped 0
     ]
 
+-- A number as what is taken.
 abbrev pub ofNumber : Number → Taken
 ofNumber (number.Stopped n) = Stopped n
 ofNumber (number.Read value n) = Value value n
 
--- The octets that a text begins with, at most 65,535.
+-- The octets that a text begins with, at most 65,535. They go on as far as two digits stand together: a digit that is left
+-- over is for the next part, which does not take it.
 unfoldable pub octetsTaken : List ℕ → Taken
 octetsTaken text = if leb (pairsOf text) 65535 then Octets (pairsOf text) else Stopped 0
 

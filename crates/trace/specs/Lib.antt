@@ -3,3 +3,4 @@ pub mod Digits
 pub mod Numbers
 pub mod Forms
 pub mod Records
+pub mod Texts

@@ -45,6 +45,7 @@ walk (part ∷ parts) values place line =
           else misfit place
     ]
 
--- What a line holds, by its form.
+-- What a line holds, by its form: its values, or the place at which it departs from the form. That is where a character is
+-- missing or another one stands, where a number that is none or too large begins, or where more follows than the form has.
 abbrev pub recordOf : List ℕ → List ℕ → Record
 recordOf form line = walk (partsOf form) [] 0 line

@@ -29,7 +29,8 @@ fn misfit(column: usize) -> Record
     }
 }
 
-// What a line holds, by its form.
+// What a line holds, by its form. The values are in the form's order; octets (%x) give two, the place of their first digit
+// and how many they are, and octet_at reads them.
 pub fn read_record(line: &[u8], form: &[u8]) -> Record
     ensures { λ r. ⌜ r ≡ recordOf (now (form .entry)) (now (line .entry)) ⌝ }
 {
