@@ -26,10 +26,15 @@ fn space() -> [u8; 2097152]
 fn run_in(text: &mut [u8]) {
     let split = load(text, b"tables.calls");
     let end = more(text, split);
-    if text.len() < end {
-        return;
+    run::run(up_to(text, end), split).print();
+}
+
+// The first n octets, or all.
+fn up_to(s: &[u8], n: usize) -> &[u8] {
+    if s.len() < n {
+        return s;
     }
-    run::run(&text[..end], split).print();
+    &s[..n]
 }
 
 // Reads a file into buf, and answers where it ends there.

@@ -98,10 +98,11 @@ fn with_address(mut post: Post, line: &[u8]) -> Post {
     let table = tables.ip_addrs;
     let mut entries = table.entries;
     entries[k] = addr(r);
-    tables.ip_addrs = AddrTable {
+    let filled = AddrTable {
         entries,
         count: table.count,
     };
+    tables.ip_addrs = filled;
     post.tables = tables;
     post.addrs = k + 1;
     post
@@ -125,10 +126,11 @@ fn with_route(mut post: Post, line: &[u8]) -> Post {
     let table = tables.routes;
     let mut entries = table.entries;
     entries[k] = route(r);
-    tables.routes = RouteTable {
+    let filled = RouteTable {
         entries,
         count: table.count,
     };
+    tables.routes = filled;
     post.tables = tables;
     post.routes = k + 1;
     post

@@ -51,31 +51,39 @@ fn ended(text: &[u8], standing: Standing) -> Tally {
     standing.tally
 }
 
+// Where the line at a place ends: at an LF, or with the text.
+fn line_end(text: &[u8], at: usize) -> usize
+    requires { ⌜ at ≤ length (now text) ⌝ }
+    ensures { λ r. ⌜ (at ≤ r) × (r ≤ length (now (text .entry))) ⌝ }
+{
+    let n = trace::line_len(&text[at..]);
+    if text.len() - at < n {
+        return text.len();
+    }
+    at + n
+}
+
 // The line at a place, without its LF; an empty one behind the text.
 fn line_at(text: &[u8], at: usize) -> &[u8] {
     if text.len() < at {
         return &text[..0];
     }
-    let rest = &text[at..];
-    let n = trace::line_len(rest);
-    if rest.len() < n {
-        return rest;
-    }
-    &rest[..n]
+    let end = line_end(text, at);
+    &text[at..end]
 }
 
 // Where the next line begins.
 fn after_line(text: &[u8], at: usize) -> usize
     ensures { λ r. ⌜ (at < length (now (text .entry)) → at < r) ⌝ }
 {
-    if text.len() <= at {
+    if text.len() < at {
         return at;
     }
-    let n = trace::line_len(&text[at..]);
-    if text.len() - at <= n {
-        return text.len();
+    let end = line_end(text, at);
+    if end < text.len() {
+        return end + 1;
     }
-    at + n + 1
+    end
 }
 
 // A record of the list: one that sets the post, one that is passed over, or a call.

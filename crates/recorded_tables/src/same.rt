@@ -9,17 +9,17 @@ pub fn same_tables(a: Tables, b: Tables) -> bool {
     if a.config_generation != b.config_generation {
         return false;
     }
-    let mut place = 0;
-    while place < 5 {
-        if !same_addr(a.addr_at(place), b.addr_at(place)) {
-            return false;
-        }
-        if !same_route(a.route_at(place), b.route_at(place)) {
-            return false;
-        }
-        place += 1;
-    }
-    true
+    let first = same_place(a, b, 0);
+    let second = same_place(a, b, 1);
+    let third = same_place(a, b, 2);
+    let fourth = same_place(a, b, 3);
+    first & second & third & fourth
+}
+
+fn same_place(a: Tables, b: Tables, place: usize) -> bool {
+    let addrs = same_addr(a.addr_at(place), b.addr_at(place));
+    let routes = same_route(a.route_at(place), b.route_at(place));
+    addrs & routes
 }
 
 fn same_addr(a: AddrAt, b: AddrAt) -> bool {

@@ -1,0 +1,59 @@
+use Prim.Native.Nat.{_-_}
+use lib.ListN.{length}
+use borrow.Author.Needs.{needs}
+use native.Mathlib.Omega.{arith}
+use Rattle.recorded_tables.proofs.run.told_by.Statement.{statement}
+use Rattle.recorded_tables.proofs.run.told_by.Tie as tie
+
+abbrev Inv-loop : tie.InvT-loop
+Inv-loop text first post₀ at₀ post at = Unit {0}
+
+abbrev μ-loop : tie.MeasureT-loop
+μ-loop text first post₀ at₀ post at = length text - at
+
+after-line-requires : tie.Need-after-line-requires Inv-loop μ-loop
+after-line-requires c κs = search needs
+
+loop-holds : tie.Need-loop-holds Inv-loop μ-loop
+loop-holds c = tt
+
+line-at-requires : tie.Need-line-at-requires Inv-loop μ-loop
+line-at-requires c κs = search needs
+
+begins-answer-requires : tie.Need-begins-answer-requires Inv-loop μ-loop
+begins-answer-requires c κs = search needs
+
+returns : tie.Need-returns Inv-loop μ-loop
+returns c = search needs
+
+with-line-requires : tie.Need-with-line-requires Inv-loop μ-loop
+with-line-requires c κs = search needs
+
+after-line-requires-2 : tie.Need-after-line-requires-2 Inv-loop μ-loop
+after-line-requires-2 c κs = search needs
+
+loop-less : tie.Need-loop-less Inv-loop μ-loop
+loop-less c = omega (arith, c .after-line2 .ensures (c .before .before .before .before .before .loop-test .taken))
+
+loop-again : tie.Need-loop-again Inv-loop μ-loop
+loop-again c = tt
+
+returns-2 : tie.Need-returns-2 Inv-loop μ-loop
+returns-2 c = search needs
+
+pub told-by-spec : {M : Type 1} → statement M
+told-by-spec =
+    tie.close
+    (tie.spec
+    Inv-loop
+    μ-loop
+    after-line-requires
+    loop-holds
+    line-at-requires
+    begins-answer-requires
+    returns
+    with-line-requires
+    after-line-requires-2
+    loop-less
+    loop-again
+    returns-2)
