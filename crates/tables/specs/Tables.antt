@@ -73,7 +73,7 @@ addrFits a = prefixFits (a .prefix)
 abbrev pub routeFits : Route → Bool
 routeFits a = prefixFits (a .prefix)
 
--- Whether a table is whole: its count is within its places, and so are the prefixes of the entries in use.
+-- Whether a table is whole: its count is not over its places, and no prefix of an entry in use is over 32.
 unfoldable pub wholeAddrs : AddrTable → Bool
 wholeAddrs t = if leb (t .count) places then all addrFits (addrsOf t) else false
 
