@@ -1,4 +1,4 @@
--- What each call does to DHCP's own entries, and to the others. Assumes nothing.
+-- What a lease does to DHCP's own entries and to the others, and that whole tables stay whole under it. Assumes nothing.
 use Prim.Native.Nat.{_≤_}
 use mathlib.Core.Path.{_≡_, refl, ap, _∙_}
 use mathlib.Core.Bool.{Bool, true, false, not, _&&_}
