@@ -11,7 +11,9 @@ mod number;
 mod record;
 
 pub use digit::octet_at;
+pub use line::after_line;
 pub use line::begins;
+pub use line::line_at;
 pub use line::line_len;
 pub use record::Record;
 pub use record::read_record;

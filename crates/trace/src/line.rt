@@ -1,6 +1,6 @@
 // Lines of a text, and what a line begins with.
 ghost use mathlib.Core.Path.{_≡_};
-ghost use Rattle.trace.specs.Lines.{lineLength, beginsWith, startsWith};
+ghost use Rattle.trace.specs.Lines.{lineLength, lineAt, afterLine, beginsWith, startsWith};
 
 // LF, with which a line ends.
 const LINE_END: u8 = 10;
@@ -19,6 +19,32 @@ pub fn line_len(text: &[u8]) -> usize
         t = &t[1..];
     }
     n
+}
+
+// The line that begins at a place, without its LF; an empty one at the text's end and behind it.
+pub fn line_at(text: &[u8], at: usize) -> &[u8]
+    ensures { λ r. ⌜ now r ≡ lineAt at (now (text .entry)) ⌝ }
+{
+    if text.len() < at {
+        return &text[..0];
+    }
+    let rest = &text[at..];
+    let n = line_len(rest);
+    &rest[..n]
+}
+
+// Where the line after the one at a place begins: behind the LF, or at the text's end.
+pub fn after_line(text: &[u8], at: usize) -> usize
+    ensures { λ r. ⌜ r ≡ afterLine at (now (text .entry)) ⌝ }
+{
+    if text.len() < at {
+        return at;
+    }
+    let n = line_len(&text[at..]);
+    if n < text.len() - at {
+        return at + n + 1;
+    }
+    text.len()
 }
 
 // Whether the line begins with these characters.
