@@ -1,96 +1,88 @@
 // The messages that polls sent: each is built anew from the settings and the state that the records tell, in a buffer as
 // it was lent, and the whole buffer is compared with the Rust's.
-use crate::answer::Lines;
-use crate::post;
-use crate::record::address;
-use crate::record::after;
-use crate::record::begins;
-use crate::record::line_at;
-use crate::record::number;
-use crate::record::octets_in;
+use crate::post::Post;
 use crate::tally::DISCOVERS;
 use crate::tally::RENEWALS;
 use crate::tally::REQUESTS;
 use crate::tally::Tally;
-use crate::text::up_to;
+use crate::values::octets_in;
+use crate::values::read;
+use crate::values::read_lease;
+use crate::values::read_settings;
+use crate::values::read_state;
+use crate::values::up_to;
+use crate::values::word;
 use message::Answer;
 use message::Message;
 use message::Route;
 use octets::MaybeNumber;
+use trace::line_at;
 
-// Compares the message of a poll, if one was sent.
-pub fn poll(text: &[u8], call: &[u8], settings: &[u8], answer: Lines, tally: Tally) -> Tally {
-    if !begins(line_at(text, answer.first), b"polled ") {
-        return tally.differs();
-    }
-    let sent = line_at(text, answer.sent);
-    if length(sent) == 0 {
+// Compares the message of a poll, if one was sent; none is in Init.
+pub fn poll(text: &[u8], call: &[u8], answer: &[u8], post: Post, tally: Tally) -> Tally {
+    read(answer, b"polled moment=%w number=%c wake=%w purge=%b");
+    let sent = read(
+        line_at(text, post.sent),
+        b"sent length=%h source=%a destination=%a",
+    );
+    if sent[0] == 0 {
         return tally;
     }
-    let state = line_at(text, answer.state);
-    let lease = line_at(text, answer.lease);
-    let buffer = line_at(text, answer.buffer);
-    tally.count(
-        kind(state),
-        is_sent(call, settings, sent, buffer, due(settings, state, lease)),
-    )
-}
-
-// The length of what was sent.
-fn length(sent: &[u8]) -> usize {
-    number(after(sent, b"sent length=")) as usize
-}
-
-// Where a message is counted.
-fn kind(state: &[u8]) -> usize {
-    if begins(state, b"discovering ") {
-        return DISCOVERS;
+    if post.kind == 0 {
+        return tally.count(RENEWALS, false);
     }
-    if begins(state, b"requesting ") {
-        return REQUESTS;
-    }
-    RENEWALS
+    let settings = line_at(text, post.settings);
+    let buffer = line_at(text, post.buffer);
+    let due = due(text, settings, post);
+    tally.count(post.kind, is_sent(call, settings, sent, buffer, due))
 }
 
 // The message that is due in a state: a Discover, a Request for what was offered, or one for the address that is held.
-fn due(settings: &[u8], state: &[u8], lease: &[u8]) -> Message {
-    if begins(state, b"discovering ") {
-        return message(settings, state, 1, 0, MaybeNumber::None, MaybeNumber::None);
-    }
-    if begins(state, b"requesting ") {
-        let requested = MaybeNumber::Some(post::requested(state));
-        let server = MaybeNumber::Some(post::identifier(state));
-        return message(settings, state, 3, 0, requested, server);
-    }
-    let client = address(post::lease_address(lease));
-    message(
-        settings,
-        state,
-        3,
-        client,
-        MaybeNumber::None,
-        MaybeNumber::None,
-    )
-}
-
-fn message(
-    settings: &[u8],
-    state: &[u8],
-    kind: u8,
-    client: u32,
-    requested: MaybeNumber,
-    server: MaybeNumber,
-) -> Message {
+fn due(text: &[u8], settings: &[u8], post: Post) -> Message {
+    let v = read_state(line_at(text, post.state), post.kind);
+    let s = read_settings(settings);
     Message {
-        kind,
-        id: post::id(state),
-        client,
-        hardware: post::hardware(settings),
-        requested,
-        server,
-        size: MaybeNumber::Some(size(post::mtu(settings))),
+        kind: message_type(post.kind),
+        id: word(v[0]),
+        client: held(line_at(text, post.lease)),
+        hardware: hardware(settings),
+        requested: offered(post.kind, v[5]),
+        server: offered(post.kind, v[4]),
+        size: MaybeNumber::Some(size(word(s[1]))),
         asks: true,
     }
+}
+
+// Option 53: a Discover is 1, a Request 3.
+fn message_type(kind: usize) -> u8 {
+    if kind == DISCOVERS {
+        return 1;
+    }
+    3
+}
+
+// The address of a lease, 0 where there is none.
+fn held(lease: &[u8]) -> u32 {
+    if lease.len() == 0 {
+        return 0;
+    }
+    let v = read_lease(lease);
+    word(v[2])
+}
+
+// What an offer said, where one is requested.
+fn offered(kind: usize, value: u64) -> MaybeNumber {
+    if kind == REQUESTS {
+        return MaybeNumber::Some(word(value));
+    }
+    MaybeNumber::None
+}
+
+pub fn hardware(settings: &[u8]) -> [u8; 6] {
+    let s = read_settings(settings);
+    let mut hardware = [0u8; 6];
+    octets_in(settings, s, 2, &mut hardware);
+    hardware
 }
 
 // The longest message that the post takes: the mtu less 60 octets of IP header and 8 of UDP header.
@@ -102,44 +94,21 @@ fn size(mtu: u32) -> u32 {
 }
 
 // Whether the message, written into a buffer as it was lent, leaves the buffer that is recorded.
-fn is_sent(call: &[u8], settings: &[u8], sent: &[u8], buffer: &[u8], message: Message) -> bool {
+fn is_sent(call: &[u8], settings: &[u8], sent: [u64; 16], buffer: &[u8], m: Message) -> bool {
+    let c = read(call, b"poll step=%w length=%h fill=%c");
+    let fill = word(c[2]);
     let mut ours = io::large_buffer();
-    lend(&mut ours, fill(call));
-    let n = write_in(
-        &mut ours,
-        lent(call),
-        route(settings, sent),
-        settings,
-        message,
-    );
-    if n != length(sent) {
-        return false;
-    }
-    is_recorded(&ours, call, buffer)
+    lend(&mut ours, fill);
+    let n = write_in(&mut ours, c[1] as usize, settings, sent, m);
+    (n as u64 == sent[0]) & is_recorded(&ours, fill, buffer)
 }
 
-fn is_recorded(ours: &[u8], call: &[u8], buffer: &[u8]) -> bool {
+fn is_recorded(ours: &[u8], fill: u32, line: &[u8]) -> bool {
+    let b = read(line, b"buffer bytes=%x");
     let mut theirs = io::large_buffer();
-    lend(&mut theirs, fill(call));
-    octets_in(after(buffer, b"buffer bytes="), &mut theirs);
+    lend(&mut theirs, fill);
+    octets_in(line, b, 0, &mut theirs);
     octets::run::same(ours, &theirs)
-}
-
-// How much was lent, and the first octet of it.
-fn lent(call: &[u8]) -> usize {
-    number(after(call, b"poll step=% length=")) as usize
-}
-
-fn fill(call: &[u8]) -> u32 {
-    number(after(call, b"poll step=% length=% fill="))
-}
-
-// Writes the message into the first octets of buf, as many as were lent.
-fn write_in(buf: &mut [u8], lent: usize, route: Route, settings: &[u8], m: Message) -> usize {
-    if buf.len() < lent {
-        return 0;
-    }
-    write(&mut buf[..lent], route, settings, m)
 }
 
 // Octet i is fill + i, modulo 256.
@@ -153,42 +122,58 @@ fn lend(buf: &mut [u8], fill: u32) {
     }
 }
 
-fn route(settings: &[u8], sent: &[u8]) -> Route {
-    Route {
-        source: address(after(sent, b"sent length=% source=")),
-        destination: address(after(sent, b"sent length=% source=% destination=")),
-        offload: post::offload(settings),
+// Writes the message into the first octets of buf, as many as were lent, and answers its datagram's length, 0 where it
+// is refused.
+fn write_in(buf: &mut [u8], lent: usize, settings: &[u8], sent: [u64; 16], m: Message) -> usize {
+    if buf.len() < lent {
+        return 0;
     }
+    let s = read_settings(settings);
+    let route = Route {
+        source: word(sent[1]),
+        destination: word(sent[2]),
+        offload: s[4] == 1,
+    };
+    write(&mut buf[..lent], route, m, settings, s)
 }
 
-// Writes the message and answers its datagram's length, 0 where it is refused.
-fn write(buf: &mut [u8], route: Route, settings: &[u8], m: Message) -> usize {
+fn write(buf: &mut [u8], route: Route, m: Message, settings: &[u8], s: [u64; 16]) -> usize {
     let mut name = [0u8; 256];
+    let named = octets_in(settings, s, 5, &mut name);
     let mut list = [0u8; 256];
-    let named = octets_in(post::name(settings), &mut name);
-    let asked = post::request_list(settings, &mut list);
+    let listed = request_list(settings, s, &mut list);
     write_lists(
         buf,
         route,
-        settings,
         m,
         up_to(&name, named),
-        up_to(&list, asked),
+        up_to(&list, listed),
+        settings,
+        s,
     )
 }
 
 fn write_lists(
     buf: &mut [u8],
     route: Route,
-    settings: &[u8],
     m: Message,
     name: &[u8],
     list: &[u8],
+    settings: &[u8],
+    s: [u64; 16],
 ) -> usize {
     let mut extra = [0u8; 256];
-    let n = octets_in(post::extra(settings), &mut extra);
+    let n = octets_in(settings, s, 10, &mut extra);
     match message::write_message(buf, route, m, name, list, up_to(&extra, n)) {
         Answer::Length(n) => n,
         Answer::Refused(_) => 0,
     }
+}
+
+// The codes of the request list, 1, 3 and 6 where there is none.
+fn request_list(settings: &[u8], s: [u64; 16], out: &mut [u8]) -> usize {
+    if s[7] == 1 {
+        return octets_in(settings, s, 8, out);
+    }
+    octets::run::put_bytes(out, b"\x01\x03\x06")
 }

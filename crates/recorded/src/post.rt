@@ -1,88 +1,102 @@
-// What a list's records say of the post: the settings, and the state with its lease.
-use crate::record::address;
-use crate::record::after;
-use crate::record::begins;
-use crate::record::number;
-use crate::record::octets_in;
+// The post as the records tell it: where the lines are that say it.
+use trace::begins;
 
-// The fields of a settings line.
-pub fn mtu(settings: &[u8]) -> u32 {
-    number(after(settings, b"settings medium=% mtu="))
+// The places of lines, NOWHERE where there is none; lease, sent and buffer belong to the last answer. The kind of the state
+// is 0 for init, else where the tally counts its messages. Then where the next answer begins.
+pub struct Post {
+    pub settings: usize,
+    pub state: usize,
+    pub kind: usize,
+    pub lease: usize,
+    pub sent: usize,
+    pub buffer: usize,
+    pub answer: usize,
 }
 
-pub fn hardware(settings: &[u8]) -> [u8; 6] {
-    let mut hardware = [0u8; 6];
-    octets_in(
-        after(settings, b"settings medium=% mtu=% hardware="),
-        &mut hardware,
+// Behind every text.
+const NOWHERE: usize = 2097152;
+
+// Nothing is told yet.
+pub fn untold(answer: usize) -> Post {
+    Post {
+        settings: NOWHERE,
+        state: NOWHERE,
+        kind: 0,
+        lease: NOWHERE,
+        sent: NOWHERE,
+        buffer: NOWHERE,
+        answer,
+    }
+}
+
+// The post with what the line at a place says of it.
+pub fn with_line(mut post: Post, line: &[u8], at: usize) -> Post {
+    let word = which(
+        line,
+        b"settings \nsent \nbuffer \nlease \ninit \ndiscovering \nrequesting \nrenewing ",
     );
-    hardware
-}
-
-pub fn offload(settings: &[u8]) -> bool {
-    number(after(settings, b"settings medium=% mtu=% hardware=% offload=")) == 1
-}
-
-pub fn name(settings: &[u8]) -> &[u8] {
-    after(
-        settings,
-        b"settings medium=% mtu=% hardware=% offload=% name=",
-    )
-}
-
-fn listed(settings: &[u8]) -> &[u8] {
-    after(
-        settings,
-        b"settings medium=% mtu=% hardware=% offload=% name=% listed=",
-    )
-}
-
-// The codes of the request list, 1, 3 and 6 where there is none, into out; how many.
-pub fn request_list(settings: &[u8], out: &mut [u8]) -> usize {
-    if number(listed(settings)) == 1 {
-        return octets_in(after(listed(settings), b"% list="), out);
+    if word == 1 {
+        post.settings = at;
+        return post;
     }
-    octets_in(b"010306", out)
-}
-
-pub fn extra(settings: &[u8]) -> &[u8] {
-    after(listed(settings), b"% list=% extra=")
-}
-
-// The id of a line init, discovering, requesting or renewing.
-pub fn id(state: &[u8]) -> u32 {
-    if begins(state, b"requesting ") {
-        return number(after(state, b"requesting id="));
+    if word == 2 {
+        post.sent = at;
+        return post;
     }
-    if begins(state, b"renewing ") {
-        return number(after(state, b"renewing id="));
+    if word == 3 {
+        post.buffer = at;
+        return post;
     }
-    id_without_lease(state)
-}
-
-fn id_without_lease(state: &[u8]) -> u32 {
-    if begins(state, b"init ") {
-        return number(after(state, b"init id="));
+    if word == 4 {
+        post.lease = at;
+        return post;
     }
-    number(after(state, b"discovering id="))
+    if 5 <= word {
+        post.state = at;
+        post.kind = word - 5;
+        return post;
+    }
+    post
 }
 
-// What a requesting line says of the offer.
-pub fn identifier(requesting: &[u8]) -> u32 {
-    address(after(
-        requesting,
-        b"requesting id=% retry_at=% retry=% server=% identifier=",
-    ))
+// The post as its next answer tells it.
+pub fn answered(text: &[u8], before: Post) -> Post {
+    let mut post = untold(0);
+    post.settings = before.settings;
+    post.state = before.state;
+    post.kind = before.kind;
+    let mut at = trace::after_line(text, before.answer);
+    while at < text.len() {
+        let line = trace::line_at(text, at);
+        if begins_answer(line) {
+            post.answer = at;
+            return post;
+        }
+        post = with_line(post, line, at);
+        at = trace::after_line(text, at);
+    }
+    post.answer = at;
+    post
 }
 
-pub fn requested(requesting: &[u8]) -> u32 {
-    address(after(
-        requesting,
-        b"requesting id=% retry_at=% retry=% server=% identifier=% requested=",
-    ))
+fn begins_answer(line: &[u8]) -> bool {
+    let word = which(
+        line,
+        b"polled \nprocessed \nchanged \ngot \ncreated \nwas_reset \nmasked \noptioned ",
+    );
+    0 < word
 }
 
-// What a lease line has from the address on.
-pub fn lease_address(lease: &[u8]) -> &[u8] {
-    after(lease, b"lease server=% identifier=% address=")
+// With which of these words a line begins, from 1 on, 0 where it is none. Each word is a line.
+pub fn which(line: &[u8], words: &[u8]) -> usize {
+    let mut at = 0;
+    let mut n = 0;
+    while at < words.len() {
+        if begins(line, trace::line_at(words, at)) {
+            return n + 1;
+        }
+        at = trace::after_line(words, at);
+        n += 1;
+    }
+    0
 }

@@ -39,65 +39,40 @@ impl Tally {
     pub fn count(self, what: usize, same: bool) -> Tally {
         let mut compared = self.compared;
         let mut equal = self.equal;
+        let mut differences = self.differences;
         if 16 <= what {
-            return self.differs();
+            return self;
         }
         compared[what] = more(compared[what]);
         if same {
             equal[what] = more(equal[what]);
-            return Tally {
-                compared,
-                equal,
-                differences: self.differences,
-            };
+        } else {
+            differences = more(differences);
         }
         Tally {
             compared,
             equal,
-            differences: more(self.differences),
-        }
-    }
-
-    // One difference more.
-    pub fn differs(self) -> Tally {
-        let compared = self.compared;
-        let equal = self.equal;
-        Tally {
-            compared,
-            equal,
-            differences: more(self.differences),
+            differences,
         }
     }
 
     // A line for each kind that the list has.
     pub fn print(self, list: &[u8]) {
-        self.line(list, MASKS_AND_OPTIONS, b" masks and options, ");
-        self.line(list, DISCOVERS, b" Discovers, ");
-        self.line(list, REQUESTS, b" Requests in Requesting, ");
-        self.line(list, RENEWALS, b" Requests in Renewing, ");
-        self.print_replies(list);
-        self.line(list, TAKEN, b" replies that pass these checks, ");
-        self.line(list, LEASES, b" leases, ");
-        self.line(list, GETS, b" options looked up in a store, ");
-        self.print_not_whole(list);
+        self.lines(
+            list,
+            b" masks and options, \n Discovers, \n Requests in Requesting, \n Requests in Renewing, \n replies passed over by 20, \n replies passed over by 21, \n replies passed over by 22, \n replies passed over by 23, \n replies passed over by 24, \n replies passed over by 25, \n replies that pass these checks, \n leases, \n options looked up in a store, \n replies refused by 9, not compared",
+        );
     }
 
-    fn print_replies(self, list: &[u8]) {
-        self.line(list, PASSED_OVER, b" replies passed over by 20, ");
-        self.line(list, PASSED_OVER + 1, b" replies passed over by 21, ");
-        self.line(list, PASSED_OVER + 2, b" replies passed over by 22, ");
-        self.line(list, PASSED_OVER + 3, b" replies passed over by 23, ");
-        self.line(list, PASSED_OVER + 4, b" replies passed over by 24, ");
-        self.line(list, PASSED_OVER + 5, b" replies passed over by 25, ");
-    }
-
-    fn print_not_whole(self, list: &[u8]) {
-        let counted = self.compared;
-        if counted[NOT_WHOLE] == 0 {
-            return;
+    // The words of each kind are a line.
+    fn lines(self, list: &[u8], words: &[u8]) {
+        let mut at = 0;
+        let mut what = 0;
+        while at < words.len() {
+            self.line(list, what, trace::line_at(words, at));
+            at = trace::after_line(words, at);
+            what += 1;
         }
-        print_start(list, counted[NOT_WHOLE]);
-        io::write_all(STDOUT_FILENO, b" replies refused by 9, not compared\n");
     }
 
     fn line(self, list: &[u8], what: usize, words: &[u8]) {
@@ -106,24 +81,28 @@ impl Tally {
         if 16 <= what {
             return;
         }
-        print_line(list, compared[what], words, equal[what]);
+        if compared[what] == 0 {
+            return;
+        }
+        print_compared(list, compared[what], words);
+        if what == NOT_WHOLE {
+            io::write_all(STDOUT_FILENO, b"\n");
+            return;
+        }
+        print_equal(equal[what]);
     }
 }
 
-fn print_line(list: &[u8], compared: u32, words: &[u8], equal: u32) {
-    if compared == 0 {
-        return;
-    }
-    print_start(list, compared);
-    io::write_all(STDOUT_FILENO, words);
-    io::print_decimal(STDOUT_FILENO, equal as u64);
-    io::write_all(STDOUT_FILENO, b" as the Rust answered\n");
-}
-
-fn print_start(list: &[u8], number: u32) {
+fn print_compared(list: &[u8], number: u32, words: &[u8]) {
     io::write_all(STDOUT_FILENO, list);
-    io::write_all(STDOUT_FILENO, b".calls: ");
+    io::write_all(STDOUT_FILENO, b": ");
     io::print_decimal(STDOUT_FILENO, number as u64);
+    io::write_all(STDOUT_FILENO, words);
+}
+
+fn print_equal(number: u32) {
+    io::print_decimal(STDOUT_FILENO, number as u64);
+    io::write_all(STDOUT_FILENO, b" as the Rust answered\n");
 }
 
 // One more, or the largest number.

@@ -1,8 +1,8 @@
 use lib.Seq.{length-take-le}
 use mathlib.Core.Path.{sym}
 use borrow.Author.Needs.{needs}
-use Rattle.recorded.proofs.text.up_to.Statement.{statement}
-use Rattle.recorded.proofs.text.up_to.Tie as tie
+use Rattle.recorded.proofs.values.up_to.Statement.{statement}
+use Rattle.recorded.proofs.values.up_to.Tie as tie
 
 returns : tie.Need-returns
 returns c = search needs

@@ -1,8 +1,8 @@
 use mathlib.Core.Path.{sym}
 use lib.ListN.{length-replicate}
 use Prim.Native.Nat.{ℕ}
-use Rattle.recorded.proofs.lists.space.Statement.{statement}
-use Rattle.recorded.proofs.lists.space.Tie as tie
+use Rattle.recorded.proofs.space.Statement.{statement}
+use Rattle.recorded.proofs.space.Tie as tie
 
 returns : tie.Need-returns
 returns c = sym (length-replicate {0} {A = ℕ} 2097152 0)
