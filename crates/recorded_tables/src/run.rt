@@ -1,6 +1,4 @@
 // The list, call by call, with the Rust's answer to each.
-ghost use Prim.Native.Nat.{_<_, _≤_};
-ghost use lib.ListN.{length};
 use crate::post::Post;
 use crate::post::empty;
 use crate::post::installed;
@@ -16,7 +14,9 @@ use libc::STDOUT_FILENO;
 use tables::Changed;
 use tables::Outcome;
 use tables::Tables;
+use trace::after_line;
 use trace::begins;
+use trace::line_at;
 
 // Where the list stands: the post, the next answer, the tally.
 struct Standing {
@@ -49,41 +49,6 @@ fn ended(text: &[u8], standing: Standing) -> Tally {
         io::write_all(STDOUT_FILENO, b"answers without a call\n");
     }
     standing.tally
-}
-
-// Where the line at a place ends: at an LF, or with the text.
-fn line_end(text: &[u8], at: usize) -> usize
-    requires { ⌜ at ≤ length (now text) ⌝ }
-    ensures { λ r. ⌜ (at ≤ r) × (r ≤ length (now (text .entry))) ⌝ }
-{
-    let n = trace::line_len(&text[at..]);
-    if text.len() - at < n {
-        return text.len();
-    }
-    at + n
-}
-
-// The line at a place, without its LF; an empty one behind the text.
-fn line_at(text: &[u8], at: usize) -> &[u8] {
-    if text.len() < at {
-        return &text[..0];
-    }
-    let end = line_end(text, at);
-    &text[at..end]
-}
-
-// Where the next line begins.
-fn after_line(text: &[u8], at: usize) -> usize
-    ensures { λ r. ⌜ (at < length (now (text .entry)) → at < r) ⌝ }
-{
-    if text.len() < at {
-        return at;
-    }
-    let end = line_end(text, at);
-    if end < text.len() {
-        return end + 1;
-    }
-    end
 }
 
 // A record of the list: one that sets the post, one that is passed over, or a call.

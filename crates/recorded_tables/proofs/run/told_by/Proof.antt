@@ -1,7 +1,6 @@
 use Prim.Native.Nat.{_-_}
 use lib.ListN.{length}
 use borrow.Author.Needs.{needs}
-use native.Mathlib.Omega.{arith}
 use Rattle.recorded_tables.proofs.run.told_by.Statement.{statement}
 use Rattle.recorded_tables.proofs.run.told_by.Tie as tie
 
@@ -33,7 +32,7 @@ after-line-requires-2 : tie.Need-after-line-requires-2 Inv-loop μ-loop
 after-line-requires-2 c κs = search needs
 
 loop-less : tie.Need-loop-less Inv-loop μ-loop
-loop-less c = omega (arith, c .after-line2 .ensures (c .before .before .before .before .before .loop-test .taken))
+loop-less c = search needs
 
 loop-again : tie.Need-loop-again Inv-loop μ-loop
 loop-again c = tt
