@@ -25,6 +25,16 @@ pub fn same(a: &[u8], b: &[u8]) -> bool
     y.len() == 0
 }
 
+// The first n octets of s, all of them where there are no more.
+pub fn up_to(s: &[u8], n: usize) -> &[u8]
+    ensures { λ r. ⌜ now r ≡ take n (now (s .entry)) ⌝ }
+{
+    if s.len() < n {
+        return s;
+    }
+    &s[..n]
+}
+
 // Copies body to the start of buf.
 fn copy_in(buf: &mut [u8], body: &[u8])
     requires { ⌜ length (now body) ≤ length (now buf) ⌝ }

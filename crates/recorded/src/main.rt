@@ -21,7 +21,7 @@ mod stores;
 mod tally;
 mod values;
 
-use crate::values::up_to;
+use octets::run::up_to;
 
 fn main() {
     lists(

@@ -2,8 +2,8 @@
 use crate::values::is;
 use crate::values::octets_in;
 use crate::values::read;
-use crate::values::up_to;
 use crate::values::word;
+use octets::run::up_to;
 use wire::Length;
 
 pub fn mask(call: &[u8], answer: &[u8]) -> bool {

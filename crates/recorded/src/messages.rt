@@ -10,12 +10,12 @@ use crate::values::read;
 use crate::values::read_lease;
 use crate::values::read_settings;
 use crate::values::read_state;
-use crate::values::up_to;
 use crate::values::word;
 use message::Answer;
 use message::Message;
 use message::Route;
 use octets::MaybeNumber;
+use octets::run::up_to;
 use trace::line_at;
 
 // Compares the message of a poll, if one was sent; none is in Init.

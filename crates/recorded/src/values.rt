@@ -99,11 +99,3 @@ fn octets_at(line: &[u8], place: u32, count: u64, out: &mut [u8]) -> usize {
     }
     n
 }
-
-// The first n octets of s, or all of it.
-pub fn up_to(s: &[u8], n: usize) -> &[u8] {
-    if s.len() < n {
-        return s;
-    }
-    &s[..n]
-}

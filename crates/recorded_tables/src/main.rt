@@ -4,6 +4,7 @@
 ghost use mathlib.Core.Path.{_≡_};
 ghost use lib.ListN.{length};
 use libc::STDIN_FILENO;
+use octets::run::up_to;
 
 mod post;
 mod run;
@@ -27,14 +28,6 @@ fn run_in(text: &mut [u8]) {
     let split = load(text, b"tables.calls");
     let end = more(text, split);
     run::run(up_to(text, end), split).print();
-}
-
-// The first n octets, or all.
-fn up_to(s: &[u8], n: usize) -> &[u8] {
-    if s.len() < n {
-        return s;
-    }
-    &s[..n]
 }
 
 // Reads a file into buf, and answers where it ends there.

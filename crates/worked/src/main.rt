@@ -60,11 +60,3 @@ fn refused(asked: &[u8], number: u32) {
 fn octet(asked: &[u8], octet: u8) {
     line(asked, octet as u64);
 }
-
-// The first n octets, all of them where there are no more.
-fn first(s: &[u8], n: usize) -> &[u8] {
-    if n < s.len() {
-        return &s[..n];
-    }
-    s
-}

@@ -1,9 +1,9 @@
 // Document 01's examples of addresses, replies and the store, and option walks from RFC 2132's text.
-use crate::first;
 use crate::line;
 use crate::number;
 use crate::test;
 use octets::address::x_is_unicast;
+use octets::run::up_to;
 use wire::Checked;
 use wire::Got;
 use wire::Length;
@@ -68,9 +68,9 @@ fn checked(asked: &[u8], check: Checked) {
 // "20 under 240 bytes (239); 21 header (opcode 1)", and the other three that are 21
 fn header() {
     let good = reply_with(&[]);
-    checked(b"a reply of 240 octets", check_header(first(&good, 240)));
-    checked(b"a reply of 239 octets", check_header(first(&good, 239)));
-    checked(b"a reply of no octets", check_header(first(&good, 0)));
+    checked(b"a reply of 240 octets", check_header(up_to(&good, 240)));
+    checked(b"a reply of 239 octets", check_header(up_to(&good, 239)));
+    checked(b"a reply of no octets", check_header(up_to(&good, 0)));
     let mut other = good;
     other[0] = 1;
     checked(b"opcode 1", check_header(&other));
@@ -94,7 +94,7 @@ fn fields(good: &[u8]) {
     number(b"transaction id", transaction_id(good));
     number(
         b"transaction id of 7 octets",
-        transaction_id(first(good, 7)),
+        transaction_id(up_to(good, 7)),
     );
     number(b"your-address 10.0.0.7", your_ip(good));
     test(b"for 00:00:00:00:00:00", is_addressed_to(good, [0; 6]));
@@ -154,21 +154,21 @@ fn whole(padded: &[u8]) {
 fn cut(padded: &[u8]) {
     length(
         b"3 of a reply that ends with it",
-        option_len(first(padded, 252), 3),
+        option_len(up_to(padded, 252), 3),
     );
-    length(b"3 cut by one octet", option_len(first(padded, 251), 3));
+    length(b"3 cut by one octet", option_len(up_to(padded, 251), 3));
     number(
         b"53 before an option that is cut",
-        message_type(first(padded, 251)),
+        message_type(up_to(padded, 251)),
     );
-    length(b"3 cut after its code", option_len(first(padded, 247), 3));
+    length(b"3 cut after its code", option_len(up_to(padded, 247), 3));
     number(
         b"53 of a reply without options",
-        message_type(first(padded, 240)),
+        message_type(up_to(padded, 240)),
     );
     number(
         b"53 of a reply of no octets",
-        message_type(first(padded, 0)),
+        message_type(up_to(padded, 0)),
     );
 }
 

@@ -1,5 +1,4 @@
 // Document 01's examples of messages and their numbers, and RFC 1071's worked sum.
-use crate::first;
 use crate::line;
 use crate::octet;
 use clock::Rand;
@@ -9,6 +8,7 @@ use message::Route;
 use message::message_len;
 use message::write_message;
 use octets::MaybeNumber;
+use octets::run::up_to;
 
 pub fn examples() {
     words();
@@ -44,11 +44,11 @@ fn sums() {
     line(b"RFC 1071's sum", message::sum::ones_sum(0, &octets) as u64);
     line(
         b"of its first 7 octets",
-        message::sum::ones_sum(0, first(&octets, 7)) as u64,
+        message::sum::ones_sum(0, up_to(&octets, 7)) as u64,
     );
     line(
         b"of none",
-        message::sum::ones_sum(0, first(&octets, 0)) as u64,
+        message::sum::ones_sum(0, up_to(&octets, 0)) as u64,
     );
 }
 
@@ -123,11 +123,11 @@ fn refusals() {
     );
     answered(
         b"request list of 65 codes",
-        message_len(requesting(), first(&name, 63), &list, &items),
+        message_len(requesting(), up_to(&name, 63), &list, &items),
     );
     answered(
         b"extra options of 256 octets",
-        message_len(requesting(), first(&name, 63), first(&list, 64), &items),
+        message_len(requesting(), up_to(&name, 63), up_to(&list, 64), &items),
     );
     answered(
         b"extra options 12, 2, 65",

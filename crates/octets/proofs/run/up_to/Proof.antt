@@ -1,11 +1,12 @@
-use lib.Seq.{length-take-le}
 use mathlib.Core.Path.{sym}
+use native.Mathlib.Omega.{arith}
+use lib.Seq.{take-all, length-take-le}
 use borrow.Author.Needs.{needs}
-use Rattle.recorded.proofs.values.up_to.Statement.{statement}
-use Rattle.recorded.proofs.values.up_to.Tie as tie
+use Rattle.octets.proofs.run.up_to.Statement.{statement}
+use Rattle.octets.proofs.run.up_to.Tie as tie
 
 returns : tie.Need-returns
-returns c = search needs
+returns c = sym (take-all (c .before .args .n) (c .before .args .s .now) (omega arith))
 
 slice-aggregate-result : tie.Need-slice-aggregate-result
 slice-aggregate-result c = sym (length-take-le _ _ (search needs))
