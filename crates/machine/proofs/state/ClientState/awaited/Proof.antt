@@ -1,0 +1,56 @@
+use borrow.Author.Needs.{needs}
+use Rattle.machine.proofs.state.ClientState.awaited.Statement.{statement}
+use Rattle.machine.proofs.state.ClientState.awaited.Tie as tie
+use Rattle.machine.proofs.state.ClientState.awaited.Reads as reads
+use Rattle.machine.proofs.state.ClientState.awaited.Lts as lts
+use Rattle.machine.proofs.state.ack_or_nak.Reads as ack-or-nak-reads
+use Rattle.machine.proofs.state.offer_alone.Reads as offer-alone-reads
+
+enum-told : tie.Need-enum-told
+enum-told c = search needs
+
+enum-known-self : tie.Need-enum-known-self
+enum-known-self c = search needs
+
+offer-alone-requires : tie.Need-offer-alone-requires
+offer-alone-requires c κs = search needs
+
+enum-known-self-2 : tie.Need-enum-known-self-2
+enum-known-self-2 c = search needs
+
+ack-or-nak-requires : tie.Need-ack-or-nak-requires
+ack-or-nak-requires c κs = search needs
+
+enum-known-self-3 : tie.Need-enum-known-self-3
+enum-known-self-3 c = search needs
+
+ack-or-nak-requires-2 : tie.Need-ack-or-nak-requires-2
+ack-or-nak-requires-2 c κs = search needs
+
+returns : tie.Need-returns
+returns c = search needs
+
+returns-2 : tie.Need-returns-2
+returns-2 c = cc
+
+returns-3 : tie.Need-returns-3
+returns-3 c = cc
+
+returns-4 : tie.Need-returns-4
+returns-4 c = cc
+
+pub awaited-spec : {M : Type 1} → statement M
+awaited-spec =
+    tie.close
+    (tie.spec
+    enum-told
+    enum-known-self
+    offer-alone-requires
+    enum-known-self-2
+    ack-or-nak-requires
+    enum-known-self-3
+    ack-or-nak-requires-2
+    returns
+    returns-2
+    returns-3
+    returns-4)
