@@ -5,8 +5,10 @@ use native.Mathlib.Omega.{arith}
 use native.Mathlib.Nat.{not-suc-le-zero, pow-suc, sub-le}
 use native.Mathlib.Numerals.{sub-one}
 use lib.Pow.{pow-mono}
+use lib.Dec.{eqb}
 use borrow.Author.Tests.{eq-eqb, ne-eqb}
 use Rattle.clock.specs.Choice.{if_then_else_}
+use Rattle.clock.proofs.Choices.{if-cases}
 use Rattle.octets.specs.Addresses.{maskOf, lengthUpTo}
 use Rattle.octets.specs.declared.number.MaybeNumber.the-variants.{None, Some}
 
@@ -34,3 +36,12 @@ last-hit m e = simp (eq-eqb m 0 e)
 pub last-miss : (m : ℕ) → (m ≡ 0 → ⊥) → lengthUpTo 0 m ≡ None
 unfolding lengthUpTo if_then_else_
 last-miss m e = simp (ne-eqb m 0 e)
+
+-- a prefix length has at most the bits that it may have
+pub length-bound : (n m p : ℕ) → lengthUpTo n m ≡ Some p → p ≤ n
+unfolding lengthUpTo
+length-bound zero m p = if-cases (λ r. r ≡ Some p → p ≤ 0) (eqb m (maskOf 0)) (λ t e. let q : 0 ≡ p = cc in omega (arith, q)) (λ t e. let q : 0 ≡ p = cc in omega (arith, q))
+length-bound (suc n) m p =
+    if-cases (λ r. r ≡ Some p → p ≤ suc n) (eqb m (maskOf (suc n)))
+    (λ t e. let q : suc n ≡ p = cc in omega (arith, q))
+    (λ t e. omega (arith, length-bound n m p e))

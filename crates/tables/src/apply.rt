@@ -131,7 +131,7 @@ fn same_cidr(a: MaybeCidr, b: MaybeCidr) -> bool
 }
 
 // The same of two routers.
-fn same_router(a: MaybeNumber, b: MaybeNumber) -> bool
+pub fn same_router(a: MaybeNumber, b: MaybeNumber) -> bool
     ensures { λ r. ⌜ r ≡ sameRouter a b ⌝ }
 {
     match a {

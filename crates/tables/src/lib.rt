@@ -16,6 +16,7 @@ pub use address::IfaceAddr;
 pub use apply::Applied;
 pub use apply::Installed;
 pub use apply::MaybeCidr;
+pub use apply::same_router;
 pub use lookup::AddrAt;
 pub use lookup::Count;
 pub use lookup::Has;

@@ -98,10 +98,10 @@ place-cut kind at (x ∷ []) h e c = absurd (omega arith)
 place-cut kind at (x ∷ n ∷ l) h e c = simp (ne-eqb x kind e) (past kind (at + 2) n l (omega arith))
 
 -- no more is in use than there is
-pub take-most : (bytes : List ℕ) (n : ℕ) → length bytes ≡ 256 → take (min n 256) bytes ≡ take n bytes
-take-most bytes n size = elim (decLe n 256) [
-  | yes h ↦ let e : min n 256 ≡ n = omega arith in rw e
-  | no h ↦ take-all (min n 256) bytes (omega arith) ∙ sym (take-all n bytes (omega arith))
+pub take-most : (xs : List ℕ) (n size : ℕ) → length xs ≡ size → take (min n size) xs ≡ take n xs
+take-most xs n size e = elim (decLe n size) [
+  | yes h ↦ let m : min n size ≡ n = omega arith in rw m
+  | no h ↦ take-all (min n size) xs (omega arith) ∙ sym (take-all n xs (omega arith))
 ]
 
 -- wholeness by the length in use

@@ -178,7 +178,7 @@ pub fn router(reply: &[u8]) -> MaybeNumber
 }
 
 // An address, if there is one and it is unicast.
-fn unicast_only(address: MaybeNumber) -> MaybeNumber
+pub fn unicast_only(address: MaybeNumber) -> MaybeNumber
     ensures { λ r. ⌜ r ≡ ifUnicast address ⌝ }
 {
     match address {

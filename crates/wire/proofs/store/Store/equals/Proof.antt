@@ -36,8 +36,8 @@ same-requires c κs = search needs
 
 returns : tie.Need-returns
 returns c =
-    let a = take-most (c .before .before .before .before .before .before .before .args .self .bytes) (c .before .before .before .before .before .before .before .args .self .len) (size (c .before .before .before .before .before .before .before)) in
-    let b = take-most (c .before .before .before .before .before .before .before .args .other .bytes) (c .before .before .before .before .before .before .before .args .other .len) (size-other (c .before .before .before .before .before .before .before)) in
+    let a = take-most (c .before .before .before .before .before .before .before .args .self .bytes) (c .before .before .before .before .before .before .before .args .self .len) 256 (size (c .before .before .before .before .before .before .before)) in
+    let b = take-most (c .before .before .before .before .before .before .before .args .other .bytes) (c .before .before .before .before .before .before .before .args .other .len) 256 (size-other (c .before .before .before .before .before .before .before)) in
     c .same .ensures ∙ rw (c .before .before .before .before .at-most .ensures, c .before .before .before .at-most2 .ensures, a, b)
 
 pub equals-spec : {M : Type 1} → statement M

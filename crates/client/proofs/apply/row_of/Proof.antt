@@ -1,0 +1,37 @@
+use borrow.Author.Needs.{needs}
+use Rattle.client.proofs.apply.row_of.Statement.{statement}
+use Rattle.client.proofs.apply.row_of.Tie as tie
+use Rattle.client.proofs.apply.row_of.Reads as reads
+use Rattle.client.proofs.apply.row_of.Lts as lts
+use Rattle.machine.proofs.times.Row.of.Reads as of-reads
+use Rattle.machine.proofs.timer.Reads as timer-reads
+use Rattle.wire.proofs.reply.option_seconds.Reads as option-seconds-reads
+
+option-seconds-requires : tie.Need-option-seconds-requires
+option-seconds-requires c κs = search needs
+
+timer-requires : tie.Need-timer-requires
+timer-requires c κs = search needs
+
+option-seconds-requires-2 : tie.Need-option-seconds-requires-2
+option-seconds-requires-2 c κs = search needs
+
+timer-requires-2 : tie.Need-timer-requires-2
+timer-requires-2 c κs = search needs
+
+of-requires : tie.Need-of-requires
+of-requires c κs = search needs
+
+returns : tie.Need-returns
+returns c = cc
+
+pub row-of-spec : {M : Type 1} → statement M
+row-of-spec =
+    tie.close
+    (tie.spec
+    option-seconds-requires
+    timer-requires
+    option-seconds-requires-2
+    timer-requires-2
+    of-requires
+    returns)

@@ -1,0 +1,49 @@
+use Rattle.client.proofs.Settling.{ack-same, ack-other}
+use borrow.Author.Needs.{needs}
+use Rattle.client.proofs.client.Client.acked.Statement.{statement}
+use Rattle.client.proofs.client.Client.acked.Tie as tie
+use Rattle.client.proofs.client.Client.acked.Reads as reads
+use Rattle.client.proofs.client.Client.acked.Lts as lts
+use Rattle.client.proofs.client.Client.bound.Reads as bound-reads
+use Rattle.client.proofs.client.Client.entered.Reads as entered-reads
+use Rattle.client.proofs.client.Client.holds.Reads as holds-reads
+use Rattle.client.proofs.client.Client.in_state.Reads as in-state-reads
+use Rattle.client.proofs.client.Client.server.Reads as server-reads
+use Rattle.client.proofs.lease.DhcpLease.of_ack.Reads as of-ack-reads
+
+server-requires : tie.Need-server-requires
+server-requires c κs = search needs
+
+of-ack-requires : tie.Need-of-ack-requires
+of-ack-requires c κs = search needs
+
+bound-requires : tie.Need-bound-requires
+bound-requires c κs = search needs
+
+holds-requires : tie.Need-holds-requires
+holds-requires c κs = search needs
+
+in-state-requires : tie.Need-in-state-requires
+in-state-requires c κs = search needs
+
+returns : tie.Need-returns
+returns c = ack-same _ _ _ _ _ (c .before .before .before .bound .ensures) (c .before .before .before .before .before .server .ensures) (c .before .before .before .before .of-ack .ensures) (c .before .before .holds .ensures) (c .before .if1 .taken) (c .in-state .ensures)
+
+entered-requires : tie.Need-entered-requires
+entered-requires c κs = search needs
+
+returns-2 : tie.Need-returns-2
+returns-2 c = ack-other _ _ _ _ _ (c .before .before .before .bound .ensures) (c .before .before .before .before .before .server .ensures) (c .before .before .before .before .of-ack .ensures) (c .before .before .holds .ensures) (c .before .if1 .left) (c .entered .ensures)
+
+pub acked-spec : {M : Type 1} → statement M
+acked-spec =
+    tie.close
+    (tie.spec
+    server-requires
+    of-ack-requires
+    bound-requires
+    holds-requires
+    in-state-requires
+    returns
+    entered-requires
+    returns-2)

@@ -1,0 +1,30 @@
+use Rattle.client.proofs.Settling.{settled}
+use borrow.Author.Needs.{needs}
+use Rattle.client.proofs.client.Client.entered.Statement.{statement}
+use Rattle.client.proofs.client.Client.entered.Tie as tie
+use Rattle.client.proofs.client.Client.entered.Reads as reads
+use Rattle.client.proofs.client.Client.entered.Lts as lts
+use Rattle.client.proofs.client.Client.held.Reads as held-reads
+use Rattle.client.proofs.client.Client.with_lease.Reads as with-lease-reads
+use Rattle.client.proofs.lease.DhcpLease.installed.Reads as installed-reads
+use Rattle.tables.proofs.tables.Tables.dhcpv4_apply.Reads as dhcpv4-apply-reads
+
+installed-requires : tie.Need-installed-requires
+installed-requires c κs = search needs
+
+held-requires : tie.Need-held-requires
+held-requires c κs = search needs
+
+dhcpv4-apply-requires : tie.Need-dhcpv4-apply-requires
+dhcpv4-apply-requires c κs = search needs
+
+with-lease-requires : tie.Need-with-lease-requires
+with-lease-requires c κs = search needs
+
+returns : tie.Need-returns
+returns c = settled _ (c .before .before .dhcpv4-apply .ensures) (c .before .before .before .before .installed .ensures) (c .before .before .before .held .ensures) (c .with-lease .ensures)
+
+pub entered-spec : {M : Type 1} → statement M
+entered-spec =
+    tie.close
+    (tie.spec installed-requires held-requires dhcpv4-apply-requires with-lease-requires returns)

@@ -1,0 +1,29 @@
+use Rattle.machine.specs.declared.state.ClientState.{ClientState}
+use mathlib.Core.Path.{refl, sym, ap, _∙_}
+use mathlib.Core.Bool.{not}
+use Rattle.clock.proofs.Choices.{if-true, if-false}
+use Rattle.client.specs.Resets.{wholeAll}
+use borrow.Author.Needs.{needs}
+use Rattle.client.proofs.client.Client.is_whole_with.Statement.{statement}
+use Rattle.client.proofs.client.Client.is_whole_with.Tie as tie
+use Rattle.client.proofs.client.Client.is_whole_with.Reads as reads
+use Rattle.client.proofs.client.Client.is_whole_with.Lts as lts
+use Rattle.client.proofs.client.Client.is_whole.Reads as client-Client-is-whole-reads
+use Rattle.tables.proofs.tables.Tables.is_whole.Reads as tables-Tables-is-whole-reads
+
+is-whole-requires : tie.Need-is-whole-requires
+is-whole-requires c κs = search needs
+
+is-whole-requires-2 : tie.Need-is-whole-requires-2
+is-whole-requires-2 c κs = search needs
+
+returns : tie.Need-returns
+unfolding wholeAll
+returns c = if-true _ (sym (c .before .before .is-whole .ensures) ∙ (c .before .if1 .taken)) (c .is-whole2 .ensures)
+
+returns-2 : tie.Need-returns-2
+unfolding wholeAll
+returns-2 c = if-false _ (sym (c .before .is-whole .ensures) ∙ (c .if1 .left)) refl
+
+pub is-whole-with-spec : {M : Type 1} → statement M
+is-whole-with-spec = tie.close (tie.spec is-whole-requires is-whole-requires-2 returns returns-2)

@@ -1,0 +1,15 @@
+use borrow.Author.Needs.{needs}
+use Rattle.client.proofs.client.Client.restarted.Statement.{statement}
+use Rattle.client.proofs.client.Client.restarted.Tie as tie
+use Rattle.client.proofs.client.Client.restarted.Reads as reads
+use Rattle.client.proofs.client.Client.restarted.Lts as lts
+use Rattle.client.proofs.client.Client.in_state.Reads as in-state-reads
+
+in-state-requires : tie.Need-in-state-requires
+in-state-requires c κs = search needs
+
+returns : tie.Need-returns
+returns c = cc
+
+pub restarted-spec : {M : Type 1} → statement M
+restarted-spec = tie.close (tie.spec in-state-requires returns)

@@ -1,0 +1,45 @@
+use Rattle.machine.specs.declared.state.ClientState.{ClientState}
+use mathlib.Core.Path.{sym, ap, _∙_}
+use Rattle.client.specs.Taken.{serverOf}
+use borrow.Author.Needs.{needs}
+use Rattle.client.proofs.client.Client.server.Statement.{statement}
+use Rattle.client.proofs.client.Client.server.Tie as tie
+use Rattle.client.proofs.client.Client.server.Reads as reads
+use Rattle.client.proofs.client.Client.server.Lts as lts
+
+enum-told : tie.Need-enum-told
+enum-told c = search needs
+
+enum-told-2 : tie.Need-enum-told-2
+enum-told-2 c = search needs
+
+enum-known-state : tie.Need-enum-known-state
+enum-known-state c = search needs
+
+enum-told-3 : tie.Need-enum-told-3
+enum-told-3 c = search needs
+
+returns : tie.Need-returns
+returns c = ap (λ (s : ClientState). serverOf s (c .before .before .before .args .self .lease) (c .before .before .before .args .sender)) (sym (c .enum-told .given .1))
+
+returns-2 : tie.Need-returns-2
+returns-2 c = ap (λ (s : ClientState). serverOf s (c .before .before .before .args .self .lease) (c .before .before .before .args .sender)) (sym (c .enum-told2 .given .1))
+
+returns-3 : tie.Need-returns-3
+returns-3 c = search needs
+
+returns-4 : tie.Need-returns-4
+returns-4 c = search needs
+
+pub server-spec : {M : Type 1} → statement M
+server-spec =
+    tie.close
+    (tie.spec
+    enum-told
+    enum-told-2
+    enum-known-state
+    enum-told-3
+    returns
+    returns-2
+    returns-3
+    returns-4)

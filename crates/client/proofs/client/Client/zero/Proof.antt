@@ -1,0 +1,19 @@
+use borrow.Author.Needs.{needs}
+use Rattle.client.proofs.client.Client.zero.Statement.{statement}
+use Rattle.client.proofs.client.Client.zero.Tie as tie
+use Rattle.client.proofs.client.Client.zero.Reads as reads
+use Rattle.client.proofs.client.Client.zero.Lts as lts
+use Rattle.client.proofs.lease.DhcpLease.zero.Reads as lease-DhcpLease-zero-reads
+use Rattle.client.proofs.settings.Settings.zero.Reads as settings-Settings-zero-reads
+
+zero-requires : tie.Need-zero-requires
+zero-requires c κs = search needs
+
+zero-requires-2 : tie.Need-zero-requires-2
+zero-requires-2 c κs = search needs
+
+returns : tie.Need-returns
+returns c = cc
+
+pub zero-spec : {M : Type 1} → statement M
+zero-spec = tie.close (tie.spec zero-requires zero-requires-2 returns)

@@ -1,0 +1,24 @@
+use borrow.Author.Needs.{needs}
+use Rattle.client.proofs.lease.DhcpLease.of_ack.Statement.{statement}
+use Rattle.client.proofs.lease.DhcpLease.of_ack.Tie as tie
+use Rattle.client.proofs.lease.DhcpLease.of_ack.Reads as reads
+use Rattle.client.proofs.lease.DhcpLease.of_ack.Lts as lts
+use Rattle.wire.proofs.reply.option_addresses.Reads as option-addresses-reads
+use Rattle.wire.proofs.reply.router.Reads as router-reads
+use Rattle.wire.proofs.store.Store.of_reply.Reads as of-reply-reads
+
+router-requires : tie.Need-router-requires
+router-requires c κs = search needs
+
+option-addresses-requires : tie.Need-option-addresses-requires
+option-addresses-requires c κs = search needs
+
+of-reply-requires : tie.Need-of-reply-requires
+of-reply-requires c κs = search needs
+
+returns : tie.Need-returns
+returns c = cc
+
+pub of-ack-spec : {M : Type 1} → statement M
+of-ack-spec =
+    tie.close (tie.spec router-requires option-addresses-requires of-reply-requires returns)

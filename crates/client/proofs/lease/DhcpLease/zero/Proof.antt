@@ -1,0 +1,15 @@
+use borrow.Author.Needs.{needs}
+use Rattle.client.proofs.lease.DhcpLease.zero.Statement.{statement}
+use Rattle.client.proofs.lease.DhcpLease.zero.Tie as tie
+use Rattle.client.proofs.lease.DhcpLease.zero.Reads as reads
+use Rattle.client.proofs.lease.DhcpLease.zero.Lts as lts
+use Rattle.wire.proofs.store.Store.new.Reads as new-reads
+
+new-requires : tie.Need-new-requires
+new-requires c κs = search needs
+
+returns : tie.Need-returns
+returns c = cc
+
+pub zero-spec : {M : Type 1} → statement M
+zero-spec = tie.close (tie.spec new-requires returns)

@@ -1,0 +1,15 @@
+use borrow.Author.Needs.{needs}
+use Rattle.client.proofs.lookup.unheld.Statement.{statement}
+use Rattle.client.proofs.lookup.unheld.Tie as tie
+use Rattle.client.proofs.lookup.unheld.Reads as reads
+use Rattle.client.proofs.lookup.unheld.Lts as lts
+use Rattle.client.proofs.lease.DhcpLease.zero.Reads as zero-reads
+
+zero-requires : tie.Need-zero-requires
+zero-requires c κs = search needs
+
+returns : tie.Need-returns
+returns c = cc
+
+pub unheld-spec : {M : Type 1} → statement M
+unheld-spec = tie.close (tie.spec zero-requires returns)

@@ -1,0 +1,18 @@
+use Rattle.message.specs.Written.{listFits}
+use Rattle.clock.proofs.Choices.{if-true, if-false}
+use mathlib.Core.Path.{refl}
+use Rattle.client.proofs.settings.Settings.list_fits.Statement.{statement}
+use Rattle.client.proofs.settings.Settings.list_fits.Tie as tie
+use Rattle.client.proofs.settings.Settings.list_fits.Reads as reads
+use Rattle.client.proofs.settings.Settings.list_fits.Lts as lts
+
+returns : tie.Need-returns
+unfolding listFits
+returns c = if-true _ (c .before .if1 .taken) refl
+
+returns-2 : tie.Need-returns-2
+unfolding listFits
+returns-2 c = if-false _ (c .if1 .left) refl
+
+pub list-fits-spec : {M : Type 1} → statement M
+list-fits-spec = tie.close (tie.spec returns returns-2)

@@ -1,0 +1,18 @@
+use Rattle.client.specs.Settings.{maximumOf}
+use Rattle.clock.proofs.Choices.{if-true, if-false}
+use mathlib.Core.Path.{refl}
+use Rattle.client.proofs.settings.Settings.longest_lease.Statement.{statement}
+use Rattle.client.proofs.settings.Settings.longest_lease.Tie as tie
+use Rattle.client.proofs.settings.Settings.longest_lease.Reads as reads
+use Rattle.client.proofs.settings.Settings.longest_lease.Lts as lts
+
+returns : tie.Need-returns
+unfolding maximumOf
+returns c = if-true _ (c .before .if1 .taken) refl
+
+returns-2 : tie.Need-returns-2
+unfolding maximumOf
+returns-2 c = if-false _ (c .if1 .left) refl
+
+pub longest-lease-spec : {M : Type 1} → statement M
+longest-lease-spec = tie.close (tie.spec returns returns-2)

@@ -1,0 +1,70 @@
+-- The client, its creation, and number 9 of a client.
+use Prim.Native.Nat.{ℕ}
+use mathlib.Core.Bool.{Bool, true, false}
+use Rattle.octets.specs.declared.number.MaybeNumber.{MaybeNumber}
+use Rattle.octets.specs.declared.number.MaybeNumber.the-variants.{None, Some}
+use Rattle.machine.specs.declared.state.ClientState.{ClientState}
+use Rattle.machine.specs.declared.state.ClientState.the-variants.{Init, Discovering, Requesting, Renewing}
+use Rattle.tables.specs.declared.manual.Outcome.the-variants.{Done, Refused}
+use Rattle.client.specs.Settings.{noSettings, refusalOf}
+use Rattle.client.specs.Leases.{noLease, wholeLease}
+use Rattle.client.specs.declared.settings.Settings.{Settings}
+use Rattle.client.specs.declared.lease.DhcpLease.{DhcpLease}
+use Rattle.client.specs.declared.client.Client.{Client}
+use Rattle.client.specs.declared.client.Created.{Created}
+
+-- The client in another state, with another lease, and all else as it is.
+abbrev pub withLease : Client → ClientState → DhcpLease → Client
+withLease c state lease = record {
+  settings = c .settings;
+  «ignore_naks» = c .«ignore_naks»;
+  state = state;
+  lease = lease;
+  «transaction_id» = c .«transaction_id»;
+}
+
+abbrev pub inState : Client → ClientState → Client
+inState c state = withLease c state (c .lease)
+
+-- A client that creation returns: Init, no lease, transaction id 1.
+abbrev pub fresh : Settings → Bool → Client
+fresh settings ignoring = record {
+  settings = settings;
+  «ignore_naks» = ignoring;
+  state = Init;
+  lease = noLease;
+  «transaction_id» = 1;
+}
+
+-- All zero, where creation is refused.
+abbrev pub noClient : Client
+noClient = record {
+  settings = noSettings;
+  «ignore_naks» = false;
+  state = Init;
+  lease = noLease;
+  «transaction_id» = 0;
+}
+
+-- Creation: 1 to 7, in that order.
+abbrev pub createdOr : MaybeNumber → Settings → Bool → Created
+createdOr None settings ignoring = record { client = fresh settings ignoring; outcome = Done }
+createdOr (Some number) settings ignoring = record { client = noClient; outcome = Refused number }
+
+unfoldable pub created : Settings → Bool → Created
+created settings ignoring = createdOr (refusalOf settings) settings ignoring
+
+-- The lease is read in Renewing alone.
+abbrev pub leaseFits : ClientState → DhcpLease → Bool
+leaseFits Init lease = true
+leaseFits (Discovering s) lease = true
+leaseFits (Requesting s) lease = true
+leaseFits (Renewing s) lease = wholeLease lease
+
+-- 9, of a client: a setting that 1 to 7 refuse, or a lease that is read and is not whole.
+abbrev pub wholeOr : MaybeNumber → Bool → Bool
+wholeOr None fits = fits
+wholeOr (Some number) fits = false
+
+unfoldable pub wholeClient : Client → Bool
+wholeClient c = wholeOr (refusalOf (c .settings)) (leaseFits (c .state) (c .lease))

@@ -1,0 +1,48 @@
+-- Resets (document 01): the lease is dropped, if one is held, and the client starts over.
+use mathlib.Core.Bool.{Bool, false, not}
+use Rattle.clock.specs.Choice.{if_then_else_}
+use Rattle.machine.specs.declared.state.ClientState.{ClientState}
+use Rattle.machine.specs.declared.state.ClientState.the-variants.{Init, Discovering, Requesting, Renewing}
+use Rattle.tables.specs.Tables.{wholeTables}
+use Rattle.tables.specs.Applied.{applied}
+use Rattle.tables.specs.declared.tables.Tables.{Tables}
+use Rattle.client.specs.Leases.{noLease, installed, nothing}
+use Rattle.client.specs.Clients.{withLease, inState, wholeClient}
+use Rattle.client.specs.declared.client.Client.{Client}
+use Rattle.client.specs.declared.reset.Settled.{Settled}
+use Rattle.client.specs.declared.reset.WasReset.{WasReset}
+use Rattle.client.specs.declared.reset.ResetOutcome.the-variants.{Done, Refused}
+
+-- What every call on a client and its tables tests first.
+unfoldable pub wholeAll : Client → Tables → Bool
+wholeAll c t = if wholeClient c then wholeTables t else false
+
+-- Where no lease is held, the client starts over, and nothing else changes.
+abbrev pub restarted : Client → Tables → Settled
+restarted c t = record { client = inState c Init; tables = t; purge = false }
+
+-- Where one is, it is all zero after, and what it has put into the tables is out.
+abbrev pub dropped : Client → Tables → Settled
+dropped c t = record {
+  client = withLease c Init noLease;
+  tables = applied t nothing (installed (c .lease)) .tables;
+  purge = applied t nothing (installed (c .lease)) .purge;
+}
+
+abbrev pub clearedIn : ClientState → Client → Tables → Settled
+clearedIn Init c t = restarted c t
+clearedIn (Discovering s) c t = restarted c t
+clearedIn (Requesting s) c t = restarted c t
+clearedIn (Renewing s) c t = dropped c t
+
+unfoldable pub cleared : Client → Tables → Settled
+cleared c t = clearedIn (c .state) c t
+
+-- The call: 9, and then client and tables are as they came.
+abbrev pub resetDone : Settled → WasReset
+resetDone s = record { client = s .client; tables = s .tables; outcome = Done (s .purge) }
+
+unfoldable pub wasReset : Client → Tables → WasReset
+wasReset c t =
+    if not (wholeAll c t) then record { client = c; tables = t; outcome = Refused 9 }
+    else resetDone (cleared c t)

@@ -1,0 +1,125 @@
+-- What a reply that is taken does to the client and its tables (document 01, "Reading a reply").
+use Prim.Native.Nat.{ℕ}
+use mathlib.Core.Bool.{Bool, false, not}
+use mathlib.Core.List.{List}
+use Rattle.clock.specs.Choice.{if_then_else_}
+use Rattle.clock.specs.Durations.{duration}
+use Rattle.clock.specs.declared.instant.Instant.{Instant}
+use Rattle.clock.specs.declared.duration.MaybeDuration.{MaybeDuration}
+use Rattle.wire.specs.Options.{optionData}
+use Rattle.wire.specs.Readings.{secondsOf}
+use Rattle.machine.specs.Times.{given, leaseTime, rowOf, timesOf}
+use Rattle.machine.specs.States.{requesting, renewing}
+use Rattle.machine.specs.declared.state.ClientState.{ClientState}
+use Rattle.machine.specs.declared.state.ClientState.the-variants.{Init, Discovering, Requesting, Renewing}
+use Rattle.machine.specs.declared.state.DhcpServerInfo.{DhcpServerInfo}
+use Rattle.machine.specs.declared.times.Row.{Row}
+use Rattle.tables.specs.Applied.{applied}
+use Rattle.tables.specs.declared.tables.Tables.{Tables}
+use Rattle.tables.specs.declared.apply.Installed.{Installed}
+use Rattle.client.specs.Settings.{maximumOf}
+use Rattle.client.specs.Leases.{leaseOf, sameLease, installed, nothing}
+use Rattle.client.specs.Clients.{withLease, inState}
+use Rattle.client.specs.Resets.{wholeAll, cleared}
+use Rattle.client.specs.Judged.{recipientOf, judged}
+use Rattle.client.specs.declared.settings.Settings.{Settings}
+use Rattle.client.specs.declared.lease.DhcpLease.{DhcpLease}
+use Rattle.client.specs.declared.client.Client.{Client}
+use Rattle.client.specs.declared.judge.Acked.{Acked}
+use Rattle.client.specs.declared.judge.Offered.{Offered}
+use Rattle.client.specs.declared.judge.Verdict.{Verdict}
+use Rattle.client.specs.declared.judge.Verdict.the-variants.{Offer, Ack, Nak, PassedOver}
+use Rattle.client.specs.declared.reset.Settled.{Settled}
+use Rattle.client.specs.declared.process.Processed.{Processed}
+use Rattle.client.specs.declared.process.ReplyOutcome.the-variants as outcome
+
+-- Codes of options that give a time (RFC 2132, sections 9.2, 9.11 and 9.12).
+abbrev pub leaseTimeCode : ℕ
+leaseTimeCode = 51
+
+abbrev pub renewalCode : ℕ
+renewalCode = 58
+
+abbrev pub rebindingCode : ℕ
+rebindingCode = 59
+
+-- L of a reply, under a maximum.
+abbrev pub replyLease : MaybeDuration → List ℕ → ℕ
+replyLease maximum reply = leaseTime (secondsOf (optionData leaseTimeCode reply)) maximum
+
+-- The row of the table of T1 and T2 that a reply with this L falls under.
+abbrev pub replyRow : List ℕ → ℕ → Row
+replyRow reply l = rowOf (given (secondsOf (optionData renewalCode reply))) (given (secondsOf (optionData rebindingCode reply))) l
+
+-- Renewing, by the times of an ACK.
+abbrev pub boundFor : ℕ → List ℕ → Instant → ClientState
+boundFor l reply moment = renewing (timesOf (replyRow reply l) l) (duration l) moment
+
+unfoldable pub boundBy : Settings → List ℕ → Instant → ClientState
+boundBy settings reply moment = boundFor (replyLease (maximumOf settings) reply) reply moment
+
+-- Whose lease an ACK brings: in Requesting the server's that made the offer, in Renewing the one's that leased the address.
+-- No other state awaits an ACK.
+abbrev pub serverOf : ClientState → DhcpLease → DhcpServerInfo → DhcpServerInfo
+serverOf Init lease sender = sender
+serverOf (Discovering s) lease sender = sender
+serverOf (Requesting s) lease sender = s .server
+serverOf (Renewing s) lease sender = lease .server
+
+-- Whether a lease is the one that is held, and what the one that is held has put into the tables.
+abbrev pub holds : ClientState → DhcpLease → DhcpLease → Bool
+holds Init held lease = false
+holds (Discovering s) held lease = false
+holds (Requesting s) held lease = false
+holds (Renewing s) held lease = sameLease lease held
+
+abbrev pub heldBy : ClientState → DhcpLease → Installed
+heldBy Init held = nothing
+heldBy (Discovering s) held = nothing
+heldBy (Requesting s) held = nothing
+heldBy (Renewing s) held = installed held
+
+-- Another lease, in the place of the one that is held, if one is.
+abbrev pub entered : Client → Tables → ClientState → DhcpLease → Settled
+entered c t state lease = record {
+  client = withLease c state lease;
+  tables = applied t (installed lease) (heldBy (c .state) (c .lease)) .tables;
+  purge = applied t (installed lease) (heldBy (c .state) (c .lease)) .purge;
+}
+
+-- An ACK with its lease and the state that it leads to. "An ACK whose lease equals the one held (stored options included)
+-- moves the moments, ends rebinding as any accepted ACK does, and changes nothing else."
+unfoldable pub ackedAs : Client → Tables → ClientState → DhcpLease → Settled
+ackedAs c t state lease =
+    if holds (c .state) (c .lease) lease then record { client = inState c state; tables = t; purge = false }
+    else entered c t state lease
+
+abbrev pub ackLease : Client → List ℕ → Acked → DhcpLease
+ackLease c reply ack = leaseOf (serverOf (c .state) (c .lease) (ack .server)) (ack .address) (ack .prefix) reply
+
+unfoldable pub acked : Client → Tables → List ℕ → Instant → Acked → Settled
+acked c t reply moment ack = ackedAs c t (boundBy (c .settings) reply moment) (ackLease c reply ack)
+
+-- An OFFER: Requesting, due now.
+abbrev pub offered : Client → Tables → Instant → Offered → Settled
+offered c t moment offer = record {
+  client = inState c (requesting (offer .server) (offer .address) moment);
+  tables = t;
+  purge = false;
+}
+
+-- A reply after the verdict on it. One that is passed over leaves client and tables as they came.
+abbrev pub takenAs : Settled → Processed
+takenAs s = record { client = s .client; tables = s .tables; outcome = outcome.Taken (s .purge) }
+
+unfoldable pub replied : Client → Tables → List ℕ → Instant → Verdict → Processed
+replied c t reply moment (Offer offer) = takenAs (offered c t moment offer)
+replied c t reply moment (Ack ack) = takenAs (acked c t reply moment ack)
+replied c t reply moment Nak = takenAs (cleared c t)
+replied c t reply moment (PassedOver number) = record { client = c; tables = t; outcome = outcome.PassedOver number }
+
+-- The call: 9 first, and then client and tables are as they came.
+unfoldable pub processed : Client → Tables → ℕ → List ℕ → Instant → Processed
+processed c t source reply moment =
+    if not (wholeAll c t) then record { client = c; tables = t; outcome = outcome.Refused 9 }
+    else replied c t reply moment (judged (recipientOf c) source reply)

@@ -1,0 +1,154 @@
+// What a reply that is taken does to the client and its tables.
+ghost use mathlib.Core.Path.{_≡_};
+ghost use Rattle.client.specs.Taken.{replied, serverOf, holds, heldBy, boundBy, replyRow, acked, entered};
+use crate::client::Client;
+use crate::judge::Acked;
+use crate::judge::Verdict;
+use crate::lease::DhcpLease;
+use crate::lease::nothing;
+use crate::process::Processed;
+use crate::process::ReplyOutcome;
+use crate::reset::Settled;
+use clock::Duration;
+use clock::Instant;
+use machine::ClientState;
+use machine::DhcpServerInfo;
+use machine::Row;
+use tables::Installed;
+use tables::Tables;
+
+const OPT_IP_LEASE_TIME: u8 = 51;
+
+const OPT_RENEWAL_TIME_VALUE: u8 = 58;
+
+const OPT_REBINDING_TIME_VALUE: u8 = 59;
+
+impl Client {
+    // What follows from a verdict on a reply.
+    pub(crate) fn apply(
+        self,
+        tables: Tables,
+        reply: &[u8],
+        moment: Instant,
+        verdict: Verdict,
+    ) -> Processed
+        ensures { λ r. ⌜ r ≡ replied self tables (now (reply .entry)) moment verdict ⌝ }
+    {
+        match verdict {
+            Verdict::Offer(offer) => {
+                let server = offer.server;
+                let state = ClientState::requesting(server, offer.address, moment);
+                let client = self.in_state(state);
+                Processed {
+                    client,
+                    tables,
+                    outcome: ReplyOutcome::Taken { purge: false },
+                }
+            }
+            Verdict::Ack(ack) => self.acked(tables, reply, moment, ack).taken(),
+            Verdict::Nak => self.cleared(tables).taken(),
+            Verdict::PassedOver(number) => Processed {
+                client: self,
+                tables,
+                outcome: ReplyOutcome::PassedOver(number),
+            },
+        }
+    }
+
+    // An ACK. One that brings the lease that is held moves the moments, ends rebinding, and changes nothing else.
+    fn acked(self, tables: Tables, reply: &[u8], moment: Instant, ack: Acked) -> Settled
+        ensures { λ r. ⌜ r ≡ acked self tables (now (reply .entry)) moment ack ⌝ }
+    {
+        let server = self.server(ack.server);
+        let lease = DhcpLease::of_ack(server, ack.address, ack.prefix, reply);
+        let state = self.bound(reply, moment);
+        if self.holds(lease) {
+            let client = self.in_state(state);
+            return Settled {
+                client,
+                tables,
+                purge: false,
+            };
+        }
+        self.entered(tables, state, lease)
+    }
+
+    // Another lease, in the place of the one that is held, if one is.
+    fn entered(self, tables: Tables, state: ClientState, lease: DhcpLease) -> Settled
+        ensures { λ r. ⌜ r ≡ entered self tables state lease ⌝ }
+    {
+        let new = lease.installed();
+        let old = self.held();
+        let applied = tables.dhcpv4_apply(new, old);
+        let left = applied.tables;
+        let client = self.with_lease(state, lease);
+        Settled {
+            client,
+            tables: left,
+            purge: applied.purge,
+        }
+    }
+
+    // Whose lease an ACK brings: the server's that made the offer, or that leased the address; never the ACK's sender.
+    fn server(self, sender: DhcpServerInfo) -> DhcpServerInfo
+        ensures { λ r. ⌜ r ≡ serverOf (self .state) (self .lease) sender ⌝ }
+    {
+        let held = self.lease.server;
+        let state = self.state;
+        match state {
+            ClientState::Init => sender,
+            ClientState::Discovering(_) => sender,
+            ClientState::Requesting(s) => s.server,
+            ClientState::Renewing(_) => held,
+        }
+    }
+
+    // Whether this lease is the one that is held.
+    fn holds(self, lease: DhcpLease) -> bool
+        ensures { λ r. ⌜ r ≡ holds (self .state) (self .lease) lease ⌝ }
+    {
+        let held = self.lease;
+        let state = self.state;
+        match state {
+            ClientState::Init => false,
+            ClientState::Discovering(_) => false,
+            ClientState::Requesting(_) => false,
+            ClientState::Renewing(_) => lease.equals(held),
+        }
+    }
+
+    // What the lease that is held has put into the tables.
+    pub(crate) fn held(self) -> Installed
+        ensures { λ r. ⌜ r ≡ heldBy (self .state) (self .lease) ⌝ }
+    {
+        let lease = self.lease;
+        let state = self.state;
+        match state {
+            ClientState::Init => nothing(),
+            ClientState::Discovering(_) => nothing(),
+            ClientState::Requesting(_) => nothing(),
+            ClientState::Renewing(_) => lease.installed(),
+        }
+    }
+
+    // Renewing, by the times of an ACK.
+    fn bound(self, reply: &[u8], moment: Instant) -> ClientState
+        ensures { λ r. ⌜ r ≡ boundBy (self .settings) (now (reply .entry)) moment ⌝ }
+    {
+        let settings = self.settings;
+        let maximum = settings.longest_lease();
+        let said = wire::reply::option_seconds(reply, OPT_IP_LEASE_TIME);
+        let lease = machine::lease_duration(said, maximum);
+        let times = row_of(reply, lease).times(lease);
+        ClientState::renewing(times, lease, moment)
+    }
+}
+
+// The row of the table of T1 and T2 that an ACK with a lease of this length falls under.
+fn row_of(reply: &[u8], lease: Duration) -> Row
+    ensures { λ r. ⌜ r ≡ replyRow (now (reply .entry)) (lease .millis) ⌝ }
+{
+    let renew = machine::timer(wire::reply::option_seconds(reply, OPT_RENEWAL_TIME_VALUE));
+    let rebind = machine::timer(wire::reply::option_seconds(reply, OPT_REBINDING_TIME_VALUE));
+    Row::of(renew, rebind, lease)
+}

@@ -1,0 +1,25 @@
+// The DHCP client of a post, by value: its settings and creation, its lease, replies, resets, and what can be looked up.
+// Ports the rest of iface/dhcpv4.rs, but for the poll.
+//
+// Any client, tables, reply and moment have an answer: a result, or a number of document 01, and then nothing has changed.
+
+mod apply;
+pub mod client;
+mod judge;
+pub mod lease;
+pub mod lookup;
+pub mod process;
+pub mod reset;
+pub mod settings;
+
+pub use client::Client;
+pub use client::Created;
+pub use lease::DhcpLease;
+pub use lookup::Leased;
+pub use lookup::Standing;
+pub use process::Processed;
+pub use process::ReplyOutcome;
+pub use reset::ResetOutcome;
+pub use reset::WasReset;
+pub use settings::Medium;
+pub use settings::Settings;

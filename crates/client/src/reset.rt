@@ -1,0 +1,102 @@
+// Resets: the lease is dropped, if one is held, and the client starts over.
+ghost use mathlib.Core.Path.{_≡_};
+ghost use Rattle.client.specs.Resets.{wholeAll, restarted, dropped, cleared, wasReset};
+use crate::client::Client;
+use crate::lease::DhcpLease;
+use crate::lease::nothing;
+use machine::ClientState;
+use tables::Tables;
+
+// Whether link state is to be purged, or the number of the refusal.
+pub enum ResetOutcome {
+    Done { purge: bool },
+    Refused(u32),
+}
+
+// The client and its tables after a reset; as they came where it is refused.
+pub struct WasReset {
+    pub client: Client,
+    pub tables: Tables,
+    pub outcome: ResetOutcome,
+}
+
+// A client and its tables after a change, and whether link state is to be purged.
+pub(crate) struct Settled {
+    pub client: Client,
+    pub tables: Tables,
+    pub purge: bool,
+}
+
+impl Client {
+    // Drops the lease, if one is held, and starts over; 9 where client or tables are not whole.
+    pub fn reset(self, tables: Tables) -> WasReset
+        ensures { λ r. ⌜ r ≡ wasReset self tables ⌝ }
+    {
+        if !self.is_whole_with(tables) {
+            return WasReset {
+                client: self,
+                tables,
+                outcome: ResetOutcome::Refused(9),
+            };
+        }
+        let settled = self.cleared(tables);
+        let client = settled.client;
+        let left = settled.tables;
+        WasReset {
+            client,
+            tables: left,
+            outcome: ResetOutcome::Done {
+                purge: settled.purge,
+            },
+        }
+    }
+
+    // Whether number 9 finds nothing in the client and its tables.
+    pub(crate) fn is_whole_with(self, tables: Tables) -> bool
+        ensures { λ r. ⌜ r ≡ wholeAll self tables ⌝ }
+    {
+        if self.is_whole() {
+            return tables.is_whole();
+        }
+        false
+    }
+
+    // A whole client's reset. The lease is left as it came in a state that does not read it.
+    pub(crate) fn cleared(self, tables: Tables) -> Settled
+        ensures { λ r. ⌜ r ≡ cleared self tables ⌝ }
+    {
+        let state = self.state;
+        match state {
+            ClientState::Init => self.restarted(tables),
+            ClientState::Discovering(_) => self.restarted(tables),
+            ClientState::Requesting(_) => self.restarted(tables),
+            ClientState::Renewing(_) => self.dropped(tables),
+        }
+    }
+
+    fn restarted(self, tables: Tables) -> Settled
+        ensures { λ r. ⌜ r ≡ restarted self tables ⌝ }
+    {
+        let client = self.in_state(ClientState::Init);
+        Settled {
+            client,
+            tables,
+            purge: false,
+        }
+    }
+
+    // The lease goes, and with it what it has put into the tables.
+    fn dropped(self, tables: Tables) -> Settled
+        ensures { λ r. ⌜ r ≡ dropped self tables ⌝ }
+    {
+        let lease = self.lease;
+        let applied = tables.dhcpv4_apply(nothing(), lease.installed());
+        let left = applied.tables;
+        let client = self.with_lease(ClientState::Init, DhcpLease::zero());
+        Settled {
+            client,
+            tables: left,
+            purge: applied.purge,
+        }
+    }
+}

@@ -1,0 +1,223 @@
+// What a client is created with, and numbers 1 to 7, which refuse it.
+ghost use mathlib.Core.Path.{_≡_};
+ghost use Prim.Native.Nat.{_≤_};
+ghost use Rattle.client.specs.Settings.{noSettings, isEthernet, messageOf, longest, maximumOf, nameOf, listOf, extraOf, overCap, Counted, refusalOf, listsRefusal, sizeRefusal};
+ghost use Rattle.message.specs.Written.{measured, listFits};
+use clock::Duration;
+use clock::MaybeDuration;
+use message::Answer;
+use message::Message;
+use octets::MaybeNumber;
+
+pub enum Medium {
+    Ethernet,
+    Ip,
+    Ieee802154,
+}
+
+// Of each array the first so many octets count, and nothing behind a no is read.
+pub struct Settings {
+    pub medium: Medium,
+    pub mtu: u16,
+    pub hardware: [u8; 6],
+    // whether the device works the UDP checksum out
+    pub offload: bool,
+    // the host name; an empty one is none
+    pub name: [u8; 63],
+    pub name_len: usize,
+    // the codes to request, if there is such a list
+    pub listed: bool,
+    pub list: [u8; 64],
+    pub list_len: usize,
+    // options that every message ends with
+    pub extra: [u8; 255],
+    pub extra_len: usize,
+    // the longest lease, if there is such a limit
+    pub capped: bool,
+    pub maximum: Duration,
+}
+
+// Limits of document 01's numbers.
+const MTU_LEAST: u16 = 576;
+
+const MTU_MOST: u16 = 1500;
+
+const NAME_LIMIT: usize = 63;
+
+const LIST_LIMIT: usize = 64;
+
+const EXTRA_LIMIT: usize = 255;
+
+// IPv4 header of 20 octets and UDP header of 8, which go before a message; and with the longest IPv4 header, of 60.
+const HEADERS: u16 = 28;
+
+const LONGEST_HEADERS: u16 = 68;
+
+// Subnet mask, router, DNS servers.
+const DEFAULT_PARAMETER_REQUEST_LIST: [u8; 3] = [1, 3, 6];
+
+// Value of option 53, a Request.
+const REQUEST: u8 = 3;
+
+impl Settings {
+    // All zero.
+    pub fn zero() -> Settings
+        ensures { λ r. ⌜ r ≡ noSettings ⌝ }
+    {
+        Settings {
+            medium: Medium::Ethernet,
+            mtu: 0,
+            hardware: [0; 6],
+            offload: false,
+            name: [0; 63],
+            name_len: 0,
+            listed: false,
+            list: [0; 64],
+            list_len: 0,
+            extra: [0; 255],
+            extra_len: 0,
+            capped: false,
+            maximum: Duration::ZERO,
+        }
+    }
+
+    // The first of 1 to 7 that refuses these settings, or none.
+    pub fn refusal(self) -> MaybeNumber
+        ensures { λ r. ⌜ r ≡ refusalOf self ⌝ }
+    {
+        let medium = self.medium;
+        if !medium.is_ethernet() {
+            return MaybeNumber::Some(1);
+        }
+        if self.mtu < MTU_LEAST {
+            return MaybeNumber::Some(2);
+        }
+        if MTU_MOST < self.mtu {
+            return MaybeNumber::Some(2);
+        }
+        self.lists_refusal()
+    }
+
+    // 3 to 7, of settings that 1 and 2 don't refuse.
+    fn lists_refusal(self) -> MaybeNumber
+        requires { ⌜ 576 ≤ self .mtu ⌝ }
+        ensures { λ r. ⌜ r ≡ listsRefusal self ⌝ }
+    {
+        if NAME_LIMIT < self.name_len {
+            return MaybeNumber::Some(3);
+        }
+        if !self.list_fits() {
+            return MaybeNumber::Some(4);
+        }
+        if EXTRA_LIMIT < self.extra_len {
+            return MaybeNumber::Some(5);
+        }
+        self.size_refusal()
+    }
+
+    // Whether the request list, if there is one, is within its limit.
+    fn list_fits(self) -> bool
+        ensures { λ r. ⌜ r ≡ listFits (self .listed) (self .«list_len») ⌝ }
+    {
+        if self.listed {
+            return self.list_len <= LIST_LIMIT;
+        }
+        true
+    }
+
+    // The rest of 5, then 6 and 7, of settings whose counts are within their limits.
+    fn size_refusal(self) -> MaybeNumber
+        requires { ⌜ Counted self ⌝ }
+        ensures { λ r. ⌜ r ≡ sizeRefusal self ⌝ }
+    {
+        match self.longest_len() {
+            Answer::Refused(_) => MaybeNumber::Some(5),
+            Answer::Length(n) => {
+                if self.is_over_cap() {
+                    return MaybeNumber::Some(6);
+                }
+                if ((self.mtu - HEADERS) as usize) < n {
+                    return MaybeNumber::Some(7);
+                }
+                MaybeNumber::None
+            }
+        }
+    }
+
+    // Whether there is a maximum that no duration reaches.
+    fn is_over_cap(self) -> bool
+        ensures { λ r. ⌜ r ≡ overCap self ⌝ }
+    {
+        if self.capped {
+            return Duration::MAX.millis < self.maximum.millis;
+        }
+        false
+    }
+
+    // The length of the longest message, a Request in Requesting.
+    fn longest_len(self) -> Answer
+        requires { ⌜ Counted self ⌝ }
+        ensures { λ r. ⌜ r ≡ measured (longest self) (nameOf self) (listOf self) (extraOf self) ⌝ }
+    {
+        let m = self.message(REQUEST, 0, 0, MaybeNumber::Some(0), MaybeNumber::Some(0));
+        let name = self.name;
+        let n = self.name_len;
+        let extra = self.extra;
+        let e = self.extra_len;
+        if self.listed {
+            let list = self.list;
+            let k = self.list_len;
+            return message::message_len(m, &name[..n], &list[..k], &extra[..e]);
+        }
+        let list = DEFAULT_PARAMETER_REQUEST_LIST;
+        message::message_len(m, &name[..n], &list, &extra[..e])
+    }
+
+    // A message of this client, which says how long a message it takes, and asks for options.
+    fn message(
+        self,
+        kind: u8,
+        id: u32,
+        client: u32,
+        requested: MaybeNumber,
+        server: MaybeNumber,
+    ) -> Message
+        requires { ⌜ 68 ≤ self .mtu ⌝ }
+        ensures { λ r. ⌜ r ≡ messageOf self kind id client requested server ⌝ }
+    {
+        let hardware = self.hardware;
+        Message {
+            kind,
+            id,
+            client,
+            hardware,
+            requested,
+            server,
+            size: MaybeNumber::Some((self.mtu - LONGEST_HEADERS) as u32),
+            asks: true,
+        }
+    }
+
+    // The longest lease, if there is such a limit.
+    pub(crate) fn longest_lease(self) -> MaybeDuration
+        ensures { λ r. ⌜ r ≡ maximumOf self ⌝ }
+    {
+        if self.capped {
+            let maximum = self.maximum;
+            return MaybeDuration::Some(maximum);
+        }
+        MaybeDuration::None
+    }
+}
+
+impl Medium {
+    fn is_ethernet(self) -> bool
+        ensures { λ r. ⌜ r ≡ isEthernet self ⌝ }
+    {
+        match self {
+            Medium::Ethernet => true,
+            Medium::Ip => false,
+            Medium::Ieee802154 => false,
+        }
+    }
+}
