@@ -1,3 +1,5 @@
 pub mod Settling
 pub mod Refusals
 pub mod Numbers
+pub mod Wholes
+pub mod Order

@@ -1,0 +1,212 @@
+-- A whole client with whole tables stays whole, whatever call is made on it. Assumes nothing.
+use Prim.Native.Nat.{ℕ, _≤_}
+use mathlib.Core.Path.{_≡_, refl, sym, ap, _∙_}
+use mathlib.Core.Bool.{Bool, true, false, not}
+use mathlib.Core.List.{List, []}
+use mathlib.Core.Option.{Option, none, some}
+use native.Mathlib.Omega.{arith}
+use lib.ListN.{length, take, length-take}
+use borrow.Author.Tests.{le-ltb, le-leb}
+use Rattle.clock.proofs.Choices.{if-true, if-false, if-cases, both-true}
+use Rattle.clock.specs.Choice.{if_then_else_}
+use Rattle.clock.specs.declared.instant.Instant.{Instant}
+use Rattle.octets.specs.Addresses.{unicast, prefixLen}
+use Rattle.octets.proofs.Masks.{length-bound}
+use Rattle.octets.specs.declared.number.MaybeNumber.{MaybeNumber}
+use Rattle.octets.specs.declared.number.MaybeNumber.the-variants.{None, Some}
+use Rattle.wire.specs.Options.{optionData}
+use Rattle.wire.specs.Readings.{headerCheck, addressedTo, transactionId, yourAddress, messageType, addressOf, ifUnicast, addressesOf, unicastOnes, groupsOf}
+use Rattle.wire.specs.declared.reply.Checked.{Checked}
+use Rattle.wire.specs.declared.reply.Checked.the-variants as check
+use Rattle.wire.proofs.Stores.{store-sound}
+use Rattle.machine.specs.States.{awaited}
+use Rattle.machine.specs.declared.state.ClientState.{ClientState}
+use Rattle.machine.specs.declared.state.ClientState.the-variants.{Init, Discovering, Requesting, Renewing}
+use Rattle.machine.specs.declared.state.DhcpServerInfo.{DhcpServerInfo}
+use Rattle.machine.specs.declared.state.Awaited.{Awaited}
+use Rattle.machine.specs.declared.state.Awaited.the-variants as awaits
+use Rattle.tables.specs.Entries.{all}
+use Rattle.tables.specs.Tables.{addrFits, wholeTables}
+use Rattle.tables.specs.Applied.{applied, leasedAddr, leasedAddrs}
+use Rattle.tables.specs.declared.tables.Tables.{Tables}
+use Rattle.tables.specs.declared.apply.MaybeCidr.the-variants.{Absent, Cidr}
+use Rattle.tables.specs.declared.apply.Installed.{Installed}
+use Rattle.tables.proofs.Origins.{whole-applied}
+use Rattle.tables.proofs.Lists.{all-takes}
+use Rattle.client.specs.Settings.{refusalOf}
+use Rattle.client.specs.Leases.{dnsCode, leaseOf, wholeLease, installed, nothing}
+use Rattle.client.specs.Clients.{inState, fresh, created, leaseFits, wholeOr, wholeClient}
+use Rattle.client.specs.Resets.{wholeAll, restarted, dropped, clearedIn, cleared, wasReset}
+use Rattle.client.specs.Judged.{needing, judgedOffer, judgedAddress, judgedAck, judgedAs, judgedKind, isId, judgedSender, afterHeader, judged, maskCode, identifierCode, recipientOf}
+use Rattle.client.specs.Taken.{serverOf, holds, heldBy, boundBy, ackLease, ackedAs, acked, entered, offered, replied, processed}
+use Rattle.client.specs.declared.settings.Settings.{Settings}
+use Rattle.client.specs.declared.lease.DhcpLease.{DhcpLease}
+use Rattle.client.specs.declared.client.Client.{Client}
+use Rattle.client.specs.declared.judge.Recipient.{Recipient}
+use Rattle.client.specs.declared.judge.Acked.{Acked}
+use Rattle.client.specs.declared.judge.Verdict.{Verdict}
+use Rattle.client.specs.declared.judge.Verdict.the-variants.{Offer, Ack, Nak, PassedOver}
+use Rattle.client.specs.declared.reset.Settled.{Settled}
+use Rattle.client.specs.declared.reset.WasReset.{WasReset}
+use Rattle.client.specs.declared.process.Processed.{Processed}
+
+-- what holds of both outcomes of a value that has to be there
+needing-cases : (P : Verdict → Type 0) {m : MaybeNumber} (number : ℕ) (next : ℕ → Verdict) → P (PassedOver number) → ((n : ℕ) → m ≡ Some n → P (next n)) → P (needing m number next)
+unfolding needing
+needing-cases P {m = None} number next p f = p
+needing-cases P {m = Some n} number next p f = f n refl
+
+-- an ACK that is taken has a prefix that fits
+abbrev pub Fits : Verdict → Type 0
+Fits (Offer o) = Unit {0}
+Fits (Ack a) = a .prefix ≤ 32
+Fits Nak = Unit {0}
+Fits (PassedOver n) = Unit {0}
+
+offer-fits : (server : DhcpServerInfo) (reply : List ℕ) → Fits (judgedOffer server reply)
+unfolding judgedOffer
+offer-fits server reply = needing-cases Fits 27 _ tt (λ a e. if-cases Fits (not (unicast (server .address))) (λ t. tt) (λ t. tt))
+
+ack-fits : (server : DhcpServerInfo) (reply : List ℕ) → Fits (judgedAck server reply)
+unfolding judgedAck judgedAddress
+ack-fits server reply =
+    needing-cases Fits 28 _ tt (λ mask e.
+    needing-cases Fits 29 _ tt (λ prefix f.
+    needing-cases Fits 30 _ tt (λ address g. length-bound 32 mask prefix f)))
+
+as-fits : (a : Awaited) (server : DhcpServerInfo) (reply : List ℕ) → Fits (judgedAs a server reply)
+as-fits awaits.Offer server reply = offer-fits server reply
+as-fits awaits.Ack server reply = ack-fits server reply
+as-fits awaits.Nak server reply = tt
+as-fits awaits.Nothing server reply = tt
+
+pub judged-fits : (who : Recipient) (source : ℕ) (reply : List ℕ) → Fits (judged who source reply)
+unfolding judged judgedSender judgedKind
+judged-fits who source reply = header (headerCheck reply)
+  where
+    sender : (kind : ℕ) → Fits (judgedSender who source reply kind)
+    sender kind =
+        if-cases Fits (not (addressedTo (who .hardware) reply)) (λ t. tt)
+        (λ t. if-cases Fits (not (isId (who .id) (transactionId reply))) (λ u. tt)
+        (λ u. needing-cases Fits 25 _ tt (λ identifier e. as-fits (awaited (who .state) kind (who .ignoring)) (record { address = source; identifier = identifier }) reply)))
+
+    header : (k : Checked) → Fits (afterHeader k (needing (messageType reply) 22 (judgedSender who source reply)))
+    header (check.PassedOver n) = tt
+    header check.Passes = needing-cases Fits 22 _ tt (λ kind e. sender kind)
+
+-- the lease of such an ACK is whole
+few-addresses : (body : Option (List ℕ)) → addressesOf body .count ≤ 3
+few-addresses none = omega arith
+few-addresses (some body) = rw (length-take 3 (unicastOnes (groupsOf body))) (omega arith)
+
+lease-whole : (server : DhcpServerInfo) (address prefix : ℕ) (reply : List ℕ) → prefix ≤ 32 → wholeLease (leaseOf server address prefix reply) ≡ true
+unfolding wholeLease
+lease-whole server address prefix reply h =
+    sym (if-false _ (le-ltb 32 prefix h) (if-false _ (le-ltb 3 _ (few-addresses (optionData dnsCode reply))) (sym (store-sound reply .whole))))
+
+-- the parts of a whole client
+settings-whole : (c : Client) → wholeClient c ≡ true → refusalOf (c .settings) ≡ None
+unfolding wholeClient
+settings-whole c = step (refusalOf (c .settings))
+  where
+    step : (m : MaybeNumber) → wholeOr m (leaseFits (c .state) (c .lease)) ≡ true → m ≡ None
+    step None h = refl
+    step (Some n) h = cc
+
+lease-fits : (c : Client) → wholeClient c ≡ true → leaseFits (c .state) (c .lease) ≡ true
+unfolding wholeClient
+lease-fits c = step (refusalOf (c .settings))
+  where
+    step : (m : MaybeNumber) → wholeOr m (leaseFits (c .state) (c .lease)) ≡ true → leaseFits (c .state) (c .lease) ≡ true
+    step None h = h
+    step (Some n) h = cc
+
+parts-whole : (c : Client) → refusalOf (c .settings) ≡ None → leaseFits (c .state) (c .lease) ≡ true → wholeClient c ≡ true
+unfolding wholeClient
+parts-whole c e h = rw e h
+
+all-whole : (c : Client) (t : Tables) → wholeClient c ≡ true → wholeTables t ≡ true → wholeAll c t ≡ true
+unfolding wholeAll
+all-whole c t h k = sym (if-true false h (sym k))
+
+all-parts : (c : Client) (t : Tables) → wholeAll c t ≡ true → (wholeClient c ≡ true) × (wholeTables t ≡ true)
+unfolding wholeAll
+all-parts c t h = both-true (wholeClient c) h
+
+-- Creation returns a whole client.
+pub created-whole : (s : Settings) (ignoring : Bool) → refusalOf s ≡ None → wholeClient (created s ignoring .client) ≡ true
+unfolding created
+created-whole s ignoring e = rw e (parts-whole (fresh s ignoring) e refl)
+
+abbrev Whole : Settled → Type 0
+Whole s = wholeAll (s .client) (s .tables) ≡ true
+
+module _ (c : Client) (t : Tables) (h : wholeAll c t ≡ true) where
+  sound : refusalOf (c .settings) ≡ None
+  sound = settings-whole c (all-parts c t h .0)
+
+  tables-whole : wholeTables t ≡ true
+  tables-whole = all-parts c t h .1
+
+  cleared-whole : Whole (cleared c t)
+  unfolding cleared all
+  cleared-whole = step (c .state)
+    where
+      over : Whole (restarted c t)
+      over = all-whole (restarted c t .client) t (parts-whole (restarted c t .client) sound refl) tables-whole
+
+      gone : Whole (dropped c t)
+      gone = all-whole (dropped c t .client) (dropped c t .tables) (parts-whole (dropped c t .client) sound refl) (whole-applied t nothing (installed (c .lease)) refl tables-whole)
+
+      step : (s : ClientState) → Whole (clearedIn s c t)
+      step Init = over
+      step (Discovering s) = over
+      step (Requesting s) = over
+      step (Renewing s) = gone
+
+  held-whole : (s : ClientState) (held lease : DhcpLease) → holds s held lease ≡ true → leaseFits s held ≡ true → wholeLease held ≡ true
+  held-whole Init held lease e f = cc
+  held-whole (Discovering s) held lease e f = cc
+  held-whole (Requesting s) held lease e f = cc
+  held-whole (Renewing s) held lease e f = f
+
+  acked-whole : (reply : List ℕ) (moment : Instant) (ack : Acked) → ack .prefix ≤ 32 → Whole (acked c t reply moment ack)
+  unfolding acked ackedAs boundBy all
+  acked-whole reply moment ack p = if-cases Whole (holds (c .state) (c .lease) (ackLease c reply ack)) same other
+    where
+      state : ClientState
+      state = boundBy (c .settings) reply moment
+
+      lease : DhcpLease
+      lease = ackLease c reply ack
+
+      fits : wholeLease lease ≡ true
+      fits = lease-whole (serverOf (c .state) (c .lease) (ack .server)) (ack .address) (ack .prefix) reply p
+
+      same : holds (c .state) (c .lease) lease ≡ true → Whole (record { client = inState c state; tables = t; purge = false })
+      same e = all-whole (inState c state) t (parts-whole (inState c state) sound (held-whole (c .state) (c .lease) lease e (lease-fits c (all-parts c t h .0)))) tables-whole
+
+      other : holds (c .state) (c .lease) lease ≡ false → Whole (entered c t state lease)
+      other e =
+          all-whole (entered c t state lease .client) (entered c t state lease .tables) (parts-whole (entered c t state lease .client) sound fits)
+          (whole-applied t (installed lease) (heldBy (c .state) (c .lease)) (all-takes addrFits (leasedAddr (ack .address) (ack .prefix)) [] (le-leb _ _ p)) tables-whole)
+
+  reply-whole : (reply : List ℕ) (moment : Instant) (v : Verdict) → Fits v → wholeAll (replied c t reply moment v .client) (replied c t reply moment v .tables) ≡ true
+  unfolding replied
+  reply-whole reply moment (Offer o) f = all-whole (offered c t moment o .client) t (parts-whole (offered c t moment o .client) sound refl) tables-whole
+  reply-whole reply moment (Ack a) f = acked-whole reply moment a f
+  reply-whole reply moment Nak f = cleared-whole
+  reply-whole reply moment (PassedOver n) f = h
+
+  -- A reply of any bytes, from any source, at any moment.
+  pub processed-whole : (source : ℕ) (reply : List ℕ) (moment : Instant)
+      → wholeAll (processed c t source reply moment .client) (processed c t source reply moment .tables) ≡ true
+  unfolding processed
+  processed-whole source reply moment =
+      if-cases (λ (p : Processed). wholeAll (p .client) (p .tables) ≡ true) (not (wholeAll c t)) (λ e. h)
+      (λ e. reply-whole reply moment (judged (recipientOf c) source reply) (judged-fits (recipientOf c) source reply))
+
+  -- A reset.
+  pub reset-whole : wholeAll (wasReset c t .client) (wasReset c t .tables) ≡ true
+  unfolding wasReset
+  reset-whole = if-cases (λ (r : WasReset). wholeAll (r .client) (r .tables) ≡ true) (not (wholeAll c t)) (λ e. h) (λ e. cleared-whole)
