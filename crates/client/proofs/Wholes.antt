@@ -65,14 +65,14 @@ Fits (PassedOver n) = Unit {0}
 
 offer-fits : (server : DhcpServerInfo) (reply : List ℕ) → Fits (judgedOffer server reply)
 unfolding judgedOffer
-offer-fits server reply = needing-cases Fits 27 _ tt (λ a e. if-cases Fits (not (unicast (server .address))) (λ t. tt) (λ t. tt))
+offer-fits server reply = needing-cases Fits _ _ tt (λ a e. if-cases Fits (not (unicast (server .address))) (λ t. tt) (λ t. tt))
 
 ack-fits : (server : DhcpServerInfo) (reply : List ℕ) → Fits (judgedAck server reply)
 unfolding judgedAck judgedAddress
 ack-fits server reply =
-    needing-cases Fits 28 _ tt (λ mask e.
-    needing-cases Fits 29 _ tt (λ prefix f.
-    needing-cases Fits 30 _ tt (λ address g. length-bound 32 mask prefix f)))
+    needing-cases Fits _ _ tt (λ mask e.
+    needing-cases Fits _ _ tt (λ prefix f.
+    needing-cases Fits _ _ tt (λ address g. length-bound 32 mask prefix f)))
 
 as-fits : (a : Awaited) (server : DhcpServerInfo) (reply : List ℕ) → Fits (judgedAs a server reply)
 as-fits awaits.Offer server reply = offer-fits server reply
@@ -88,11 +88,11 @@ judged-fits who source reply = header (headerCheck reply)
     sender kind =
         if-cases Fits (not (addressedTo (who .hardware) reply)) (λ t. tt)
         (λ t. if-cases Fits (not (isId (who .id) (transactionId reply))) (λ u. tt)
-        (λ u. needing-cases Fits 25 _ tt (λ identifier e. as-fits (awaited (who .state) kind (who .ignoring)) (record { address = source; identifier = identifier }) reply)))
+        (λ u. needing-cases Fits _ _ tt (λ identifier e. as-fits (awaited (who .state) kind (who .ignoring)) (record { address = source; identifier = identifier }) reply)))
 
     header : (k : Checked) → Fits (afterHeader k (needing (messageType reply) 22 (judgedSender who source reply)))
     header (check.PassedOver n) = tt
-    header check.Passes = needing-cases Fits 22 _ tt (λ kind e. sender kind)
+    header check.Passes = needing-cases Fits _ _ tt (λ kind e. sender kind)
 
 -- the lease of such an ACK is whole
 few-addresses : (body : Option (List ℕ)) → addressesOf body .count ≤ 3

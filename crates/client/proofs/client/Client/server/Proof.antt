@@ -1,5 +1,5 @@
 use Rattle.machine.specs.declared.state.ClientState.{ClientState}
-use mathlib.Core.Path.{sym, ap, _∙_}
+use mathlib.Core.Path.{sym, ap}
 use Rattle.client.specs.Taken.{serverOf}
 use borrow.Author.Needs.{needs}
 use Rattle.client.proofs.client.Client.server.Statement.{statement}
@@ -26,10 +26,10 @@ returns-2 : tie.Need-returns-2
 returns-2 c = ap (λ (s : ClientState). serverOf s (c .before .before .before .args .self .lease) (c .before .before .before .args .sender)) (sym (c .enum-told2 .given .1))
 
 returns-3 : tie.Need-returns-3
-returns-3 c = search needs
+returns-3 c = ap (λ (s : ClientState). serverOf s (c .before .before .before .before .before .args .self .lease) (c .before .before .before .before .before .args .sender)) (sym (c .before .before .state .given .1))
 
 returns-4 : tie.Need-returns-4
-returns-4 c = search needs
+returns-4 c = ap (λ (s : ClientState). serverOf s (c .before .before .before .args .self .lease) (c .before .before .before .args .sender)) (sym (c .enum-told3 .given .1))
 
 pub server-spec : {M : Type 1} → statement M
 server-spec =
