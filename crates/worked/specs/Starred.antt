@@ -11,6 +11,9 @@ use Rattle.octets.specs.Words.{word16, word32}
 use Rattle.octets.specs.Addresses.{prefixLen, lengthUpTo}
 use Rattle.octets.specs.declared.number.MaybeNumber.{MaybeNumber}
 use Rattle.octets.specs.declared.number.MaybeNumber.the-variants.{None, Some}
+use Rattle.clock.specs.declared.duration.MaybeDuration.the-variants as time
+use Rattle.machine.specs.Times.{given, leaseTime, rowOf, timesOf}
+use Rattle.machine.specs.declared.times.Row.{Row}
 use Rattle.message.specs.Messages.{message, optionIf, addressOption, sizeOption, nameOption}
 use Rattle.message.specs.Datagrams.{udp}
 use Rattle.message.specs.declared.message.Message.{Message}
@@ -53,6 +56,14 @@ requesting = message (fields 3 (Some (word32 10 0 0 7)) (Some (word32 10 0 0 1))
 abbrev udpLength : List ℕ → ℕ
 udpLength body = word16 (getD (udp (0 ∷ 0 ∷ []) body) 4 0) (getD (udp (0 ∷ 0 ∷ []) body) 5 0)
 
+-- Renewal, rebinding and expiry of a lease without a maximum, in milliseconds after the ACK, by the seconds that options 51,
+-- 58 and 59 give.
+abbrev timesOfLease : ℕ → Row → List ℕ
+timesOfLease l row = timesOf row l .renew .millis ∷ timesOf row l .rebind .millis ∷ l ∷ []
+
+abbrev leased : MaybeNumber → MaybeNumber → MaybeNumber → List ℕ
+leased l t1 t2 = timesOfLease (leaseTime l time.None) (rowOf (given t1) (given t2) (leaseTime l time.None))
+
 unfoldable pub cases : List Case
 cases =
     -- "A moment plus a wait wraps at 2^32: 4,294,967,295 plus 10,000 is 9,999."
@@ -63,11 +74,16 @@ cases =
     ∷ case (numbers (prefixLen (word32 0 0 0 0))) (0 ∷ [])
     ∷ case (numbers (prefixLen (word32 255 255 255 255))) (32 ∷ [])
     ∷ case (numbers (prefixLen (word32 255 0 255 0))) []
+    -- "L absent: 60, 105, 120 s." "L 3,600: 1,800, 3,150." "L 3,600, T1 900: 900, 2,925." "L 3,600, T2 1,000: 1,000, 1,000."
+    ∷ case (leased None None None) (60000 ∷ 105000 ∷ 120000 ∷ [])
+    ∷ case (leased (Some 3600) None None) (1800000 ∷ 3150000 ∷ 3600000 ∷ [])
+    ∷ case (leased (Some 3600) (Some 900) None) (900000 ∷ 2925000 ∷ 3600000 ∷ [])
+    ∷ case (leased (Some 3600) None (Some 1000)) (1000000 ∷ 1000000 ∷ 3600000 ∷ [])
     -- "Discover without name: 262 bytes, UDP length 270." "Requesting: 274." The UDP length is octets 4 and 5.
     ∷ case (length discover ∷ udpLength discover ∷ []) (262 ∷ 270 ∷ [])
     ∷ case (length requesting ∷ []) (274 ∷ [])
     ∷ []
 
 pub all-hold : map (λ c. c .given) cases ≡ map (λ c. c .stated) cases
-unfolding cases drawn32 nextState outputOf lengthUpTo if_then_else_ message optionIf addressOption sizeOption nameOption
+unfolding cases drawn32 nextState outputOf lengthUpTo leaseTime timesOf if_then_else_ message optionIf addressOption sizeOption nameOption
 all-hold = refl
