@@ -1,3 +1,4 @@
+pub mod Made
 pub mod Settling
 pub mod Refusals
 pub mod Numbers

@@ -1,3 +1,4 @@
+use Rattle.client.proofs.Made.{lease-same}
 use borrow.Author.Needs.{needs}
 use Rattle.client.proofs.lease.DhcpLease.equals.Statement.{statement}
 use Rattle.client.proofs.lease.DhcpLease.equals.Tie as tie
@@ -17,7 +18,7 @@ equals-requires : tie.Need-equals-requires
 equals-requires c κs = search needs
 
 returns : tie.Need-returns
-returns c = cc
+returns c = lease-same (c .before .before .before .before .before .before .before .args .self) (c .before .before .before .before .before .before .before .args .other) (c .before .before .same-terms .ensures) (c .before .same-addresses .ensures) (c .equals .ensures)
 
 pub equals-spec : {M : Type 1} → statement M
 equals-spec =

@@ -1,3 +1,4 @@
+use Rattle.client.proofs.Made.{zero-lease}
 use borrow.Author.Needs.{needs}
 use Rattle.client.proofs.lease.DhcpLease.zero.Statement.{statement}
 use Rattle.client.proofs.lease.DhcpLease.zero.Tie as tie
@@ -9,7 +10,7 @@ new-requires : tie.Need-new-requires
 new-requires c κs = search needs
 
 returns : tie.Need-returns
-returns c = cc
+returns c = zero-lease (c .new .ensures)
 
 pub zero-spec : {M : Type 1} → statement M
 zero-spec = tie.close (tie.spec new-requires returns)

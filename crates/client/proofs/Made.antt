@@ -1,0 +1,55 @@
+-- Leases and clients put together of their parts. Assumes nothing.
+use Prim.Native.Nat.{ℕ}
+use mathlib.Core.Path.{_≡_, refl}
+use mathlib.Core.Bool.{Bool, false, _&&_}
+use lib.ListN.{replicate}
+use Rattle.octets.specs.declared.number.MaybeNumber.{MaybeNumber}
+use Rattle.octets.specs.declared.number.MaybeNumber.the-variants.{None}
+use Rattle.wire.specs.Readings.{router}
+use Rattle.wire.specs.Stored.{emptyStore, sameOptions}
+use Rattle.wire.specs.declared.reply.Addresses.{Addresses}
+use Rattle.wire.specs.declared.store.Store.{Store}
+use Rattle.machine.specs.declared.state.ClientState.the-variants.{Init}
+use Rattle.machine.specs.declared.state.DhcpServerInfo.{DhcpServerInfo}
+use Rattle.tables.specs.declared.lookup.Has.{Has}
+use Rattle.tables.specs.declared.tables.Tables.{Tables}
+use Rattle.client.specs.Settings.{noSettings}
+use Rattle.client.specs.Leases.{noLease, sameTerms, sameAddresses, sameLease}
+use Rattle.client.specs.Clients.{fresh, noClient, inState}
+use Rattle.client.specs.Resets.{restarted}
+use Rattle.client.specs.Lookups.{notHeld}
+use Rattle.client.specs.declared.settings.Settings.{Settings}
+use Rattle.client.specs.declared.lease.DhcpLease.{DhcpLease}
+use Rattle.client.specs.declared.client.Client.{Client}
+use Rattle.client.specs.declared.lookup.Leased.{Leased}
+use Rattle.client.specs.declared.reset.Settled.{Settled}
+
+abbrev lease : DhcpServerInfo → ℕ → ℕ → MaybeNumber → Addresses → Store → DhcpLease
+lease server address prefix router dns options = record { server = server; address = address; prefix = prefix; router = router; dns = dns; options = options }
+
+pub zero-lease : {s : Store} → s ≡ emptyStore → lease (record { address = 0; identifier = 0 }) 0 0 None (record { list = replicate 3 0; count = 0 }) s ≡ noLease
+zero-lease e = rw e refl
+
+pub lease-same : (a b : DhcpLease) {x y z : Bool} → x ≡ sameTerms a b → y ≡ sameAddresses (a .dns) (b .dns) → z ≡ sameOptions (a .options) (b .options) → (x && y) && z ≡ sameLease a b
+lease-same a b e f g = rw (e, f, g) refl
+
+abbrev client : Settings → Bool → DhcpLease → ℕ → Client
+client settings ignoring l id = record { settings = settings; «ignore_naks» = ignoring; state = Init; lease = l; «transaction_id» = id }
+
+pub fresh-client : (settings : Settings) (ignoring : Bool) {l : DhcpLease} → l ≡ noLease → client settings ignoring l 1 ≡ fresh settings ignoring
+fresh-client settings ignoring e = rw e refl
+
+pub zero-client : {settings : Settings} {l : DhcpLease} → settings ≡ noSettings → l ≡ noLease → client settings false l 0 ≡ noClient
+zero-client e f = rw (e, f) refl
+
+abbrev settled : Client → Tables → Settled
+settled c t = record { client = c; tables = t; purge = false }
+
+pub restarted-client : (c : Client) (t : Tables) {k : Client} → k ≡ inState c Init → settled k t ≡ restarted c t
+restarted-client c t e = rw e refl
+
+abbrev leased : DhcpLease → Has → Leased
+leased l held = record { lease = l; held = held }
+
+pub not-held : (held : Has) {l : DhcpLease} → l ≡ noLease → leased l held ≡ notHeld held
+not-held held e = rw e refl
