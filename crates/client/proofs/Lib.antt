@@ -3,4 +3,5 @@ pub mod Settling
 pub mod Refusals
 pub mod Numbers
 pub mod Wholes
+pub mod Unchanged
 pub mod Order

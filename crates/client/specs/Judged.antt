@@ -1,5 +1,6 @@
 -- Judging a reply (document 01, "Reading a reply"): under which number it is passed over, or what it is taken as. Which
--- replies are taken, the Rust decides.
+-- replies are taken, the Rust decides. `judged`, the last definition, is the whole; the checks stand in document 01's order
+-- from there upwards: length and header, message type, hardware address, id, identifier, then the state.
 use Prim.Native.Nat.{ℕ}
 use mathlib.Core.Bool.{Bool, false, not}
 use mathlib.Core.List.{List}
