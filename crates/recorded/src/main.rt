@@ -5,19 +5,13 @@
 //   masks and options      grep -cE '^(mask|option) ' L.calls
 //   Discovers              grep -A2 '^sent length=[1-9]' L.answers | grep -c '^discovering '
 //   Requests               the same, of requesting and of renewing
-//   passed over by N       grep -c '^processed .* number=N ' L.answers, and so of the replies refused by 9
-//   pass these checks      grep -cE '^processed .* number=(0|2[6-9]|30) ' L.answers
-//   options looked up      grep -c '^got ' L.answers
-//   leases                 grep -A2 '^processed .* number=0 ' L.answers | grep -c '^lease '
 ghost use mathlib.Core.Path.{_≡_};
 ghost use lib.ListN.{length};
 
 mod masks;
 mod messages;
 mod post;
-mod replies;
 mod run;
-mod stores;
 mod tally;
 mod values;
 
@@ -25,7 +19,7 @@ use octets::run::up_to;
 
 fn main() {
     lists(
-        b"wire.calls\nwire.answers\nreplies.calls\nreplies.answers\npolls.calls\npolls.answers\ncorners.calls\ncorners.answers\nruns.calls\nruns.answers",
+        b"wire.calls\nwire.answers\npolls.calls\npolls.answers\nmessages.calls\nmessages.answers",
     );
 }
 

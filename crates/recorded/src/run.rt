@@ -6,9 +6,6 @@ use crate::post::answered;
 use crate::post::untold;
 use crate::post::which;
 use crate::post::with_line;
-use crate::replies;
-use crate::stores;
-use crate::tally::GETS;
 use crate::tally::MASKS_AND_OPTIONS;
 use crate::tally::Tally;
 use crate::tally::more;
@@ -18,20 +15,16 @@ use libc::STDOUT_FILENO;
 // is not empty is a call too, and has an answer.
 const POLL: usize = 1;
 
-const PROCESS: usize = 2;
+const MASK: usize = 2;
 
-const GET: usize = 3;
+const OPTION: usize = 3;
 
-const MASK: usize = 4;
-
-const OPTION: usize = 5;
-
-const START: usize = 6;
+const START: usize = 4;
 
 fn word_of(line: &[u8]) -> usize {
     which(
         line,
-        b"poll \nprocess \nget \nmask \noption \nstart \nsettings \ninit \ndiscovering \nrequesting \nrenewing \nlease \ntables \naddress \nroute \ngenerator \n#",
+        b"poll \nmask \noption \nstart \nsettings \ninit \ndiscovering \nrequesting \nrenewing \nlease \ntables \naddress \nroute \ngenerator \n#",
     )
 }
 
@@ -45,7 +38,7 @@ pub fn run(name: &[u8], calls: &[u8], text: &[u8]) -> Tally {
         let line = trace::line_at(calls, at);
         let after = told(text, line, at, post);
         let before = tally.differences;
-        tally = compared(text, line, post, after, tally);
+        tally = compared(text, line, post.answer, after, tally);
         say_difference(name, number, before, tally.differences);
         post = after;
         at = trace::after_line(calls, at);
@@ -84,18 +77,11 @@ fn say_difference(name: &[u8], line: u32, before: u32, after: u32) {
 }
 
 // Compares the answer to a call, if it is one that is compared.
-fn compared(text: &[u8], call: &[u8], before: Post, after: Post, tally: Tally) -> Tally {
+fn compared(text: &[u8], call: &[u8], answer: usize, after: Post, tally: Tally) -> Tally {
     let word = word_of(call);
-    let first = trace::line_at(text, before.answer);
+    let first = trace::line_at(text, answer);
     if word == POLL {
         return messages::poll(text, call, first, after, tally);
-    }
-    if word == PROCESS {
-        return replies::process(text, call, first, before, after, tally);
-    }
-    if word == GET {
-        let lease = trace::line_at(text, after.lease);
-        return tally.count(GETS, stores::get(call, first, lease));
     }
     if word == MASK {
         return tally.count(MASKS_AND_OPTIONS, masks::mask(call, first));

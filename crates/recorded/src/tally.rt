@@ -1,7 +1,7 @@
 // How many answers were compared and how many are the Rust's, by what they are.
 use libc::STDOUT_FILENO;
 
-// What is counted, as places in a tally; the replies passed over by 20 to 25 stand from PASSED_OVER on.
+// What is counted, as places in a tally.
 pub const MASKS_AND_OPTIONS: usize = 0;
 
 pub const DISCOVERS: usize = 1;
@@ -10,27 +10,17 @@ pub const REQUESTS: usize = 2;
 
 pub const RENEWALS: usize = 3;
 
-pub const PASSED_OVER: usize = 4;
-
-pub const TAKEN: usize = 10;
-
-pub const LEASES: usize = 11;
-
-pub const GETS: usize = 12;
-
-pub const NOT_WHOLE: usize = 13;
-
 pub struct Tally {
-    pub compared: [u32; 16],
-    pub equal: [u32; 16],
+    pub compared: [u32; 4],
+    pub equal: [u32; 4],
     pub differences: u32,
 }
 
 impl Tally {
     pub fn new() -> Tally {
         Tally {
-            compared: [0; 16],
-            equal: [0; 16],
+            compared: [0; 4],
+            equal: [0; 4],
             differences: 0,
         }
     }
@@ -40,7 +30,7 @@ impl Tally {
         let mut compared = self.compared;
         let mut equal = self.equal;
         let mut differences = self.differences;
-        if 16 <= what {
+        if 4 <= what {
             return self;
         }
         compared[what] = more(compared[what]);
@@ -60,7 +50,7 @@ impl Tally {
     pub fn print(self, list: &[u8]) {
         self.lines(
             list,
-            b" masks and options, \n Discovers, \n Requests in Requesting, \n Requests in Renewing, \n replies passed over by 20, \n replies passed over by 21, \n replies passed over by 22, \n replies passed over by 23, \n replies passed over by 24, \n replies passed over by 25, \n replies that pass these checks, \n leases, \n options looked up in a store, \n replies refused by 9, not compared",
+            b" masks and options, \n Discovers, \n Requests in Requesting, \n Requests in Renewing, ",
         );
     }
 
@@ -78,17 +68,13 @@ impl Tally {
     fn line(self, list: &[u8], what: usize, words: &[u8]) {
         let compared = self.compared;
         let equal = self.equal;
-        if 16 <= what {
+        if 4 <= what {
             return;
         }
         if compared[what] == 0 {
             return;
         }
         print_compared(list, compared[what], words);
-        if what == NOT_WHOLE {
-            io::write_all(STDOUT_FILENO, b"\n");
-            return;
-        }
         print_equal(equal[what]);
     }
 }
