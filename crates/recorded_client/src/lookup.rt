@@ -1,6 +1,7 @@
 // What can be looked up of a client, against the records: what they tell where the client is whole, else 9.
 use crate::same::is_lease;
-use crate::same::is_state;
+use crate::same::same_words;
+use crate::same::state_words;
 use crate::values::RENEWING;
 use client::Client;
 use client::DhcpLease;
@@ -8,11 +9,11 @@ use client::Standing;
 use tables::Has;
 use wire::Got;
 
-// The state, of this kind, with these values behind the id.
-pub fn shows_state(client: Client, kind: usize, v: [u32; 16]) -> bool {
+// The state, by the values of its line.
+pub fn shows_state(client: Client, v: [u32; 16]) -> bool {
     let whole = client.is_whole();
     match client.state() {
-        Standing::In(state) => whole & is_state(state, kind, v),
+        Standing::In(state) => whole & same_words(state_words(state, client.transaction_id), v),
         Standing::Refused(number) => !whole & (number == 9),
     }
 }
@@ -31,24 +32,19 @@ pub fn shows_lease(client: Client, kind: usize, line: &[u8]) -> bool {
     }
 }
 
-// The option of a record `get`: of the client, where it is whole, and in the lease's store alone.
+// The option of a record `get`: of the client, 9 where it is not whole, and in the lease's store alone.
 pub fn gives(client: Client, state: usize, kind: u8, a: [u32; 16]) -> bool {
     let lease = client.lease;
     let options = lease.options;
-    let shown = client.get(kind);
-    let stored = stored(state, options.get(kind));
-    if client.is_whole() {
-        return is_got(shown, a) & is_got(stored, a);
+    let mut answer = a;
+    if !client.is_whole() {
+        answer = [0, 9, 0, 0, 0, 0, 0, 0, 0, 0, 0, 0, 0, 0, 0, 0];
     }
-    is_refused(shown) & is_got(stored, a)
-}
-
-// What is in the store, in a state that has a lease.
-fn stored(state: usize, got: Got) -> Got {
+    let shown = is_got(client.get(kind), answer);
     if state == RENEWING {
-        return got;
+        return shown & is_got(options.get(kind), a);
     }
-    Got::Absent
+    shown & is_got(Got::Absent, a)
 }
 
 fn is_got(got: Got, a: [u32; 16]) -> bool {
@@ -61,12 +57,4 @@ fn is_got(got: Got, a: [u32; 16]) -> bool {
 
 fn is_found(a: [u32; 16], number: u32, found: u32, place: usize, len: usize) -> bool {
     (a[1] == number) & (a[2] == found) & (a[3] as usize == place) & (a[4] as usize == len)
-}
-
-fn is_refused(got: Got) -> bool {
-    match got {
-        Got::Absent => false,
-        Got::At { .. } => false,
-        Got::Refused(number) => number == 9,
-    }
 }

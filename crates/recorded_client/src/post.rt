@@ -54,7 +54,9 @@ pub fn with_line(mut post: Post, line: Filled, at: usize) -> Post {
         return post;
     }
     if form <= RENEWING {
-        return with_state(post, form, at);
+        post.state = at;
+        post.kind = form;
+        return post;
     }
     if form == SETTINGS {
         post.settings = at;
@@ -65,16 +67,6 @@ pub fn with_line(mut post: Post, line: Filled, at: usize) -> Post {
         return post;
     }
     with_entry(post, form, v)
-}
-
-// A lease goes with its state.
-fn with_state(mut post: Post, kind: usize, at: usize) -> Post {
-    if post.kind == RENEWING {
-        post.lease = NOWHERE;
-    }
-    post.state = at;
-    post.kind = kind;
-    post
 }
 
 fn with_entry(post: Post, form: usize, v: [u32; 16]) -> Post {

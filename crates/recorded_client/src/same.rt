@@ -14,12 +14,8 @@ use client::DhcpLease;
 use client::Medium;
 use client::Settings;
 use machine::ClientState;
-use machine::RenewState;
-use machine::RequestState;
 use octets::MaybeNumber;
 use tables::AddrTable;
-use tables::IfaceAddr;
-use tables::Route;
 use tables::RouteTable;
 use tables::Tables;
 use trace::line_at;
@@ -38,10 +34,9 @@ fn is_client(text: &[u8], told: Post, client: Client) -> bool {
     let record = read(line_at(text, told.state));
     let v = record.values;
     let line = line_at(text, told.lease);
-    (client.transaction_id == v[0])
-        & is_state(state, told.kind, v)
+    same_words(state_words(state, client.transaction_id), v)
         & is_lease(lease, line)
-        & shows_state(client, told.kind, v)
+        & shows_state(client, v)
         & shows_lease(client, told.kind, line)
 }
 
@@ -78,105 +73,198 @@ fn is_lists(settings: Settings, line: &[u8], v: [u32; 16]) -> bool {
         & is_octets(line, v[10], v[11], &extra, settings.extra_len)
 }
 
-// Whether a state is of this kind, with these values behind the id.
-pub fn is_state(state: ClientState, kind: usize, v: [u32; 16]) -> bool {
+// The values of a state's line, with its form.
+pub fn state_words(state: ClientState, id: u32) -> [u32; 16] {
     match state {
-        ClientState::Init => kind == INIT,
-        ClientState::Discovering(s) => (kind == DISCOVERING) & (s.retry_at.millis == v[1]),
-        ClientState::Requesting(s) => (kind == REQUESTING) & is_requesting(s, v),
-        ClientState::Renewing(s) => (kind == RENEWING) & is_renewing(s, v),
+        ClientState::Init => [id, 0, 0, 0, 0, 0, 0, 0, 0, 0, 0, 0, 0, 0, 0, INIT as u32],
+        ClientState::Discovering(s) => [
+            id,
+            s.retry_at.millis,
+            0,
+            0,
+            0,
+            0,
+            0,
+            0,
+            0,
+            0,
+            0,
+            0,
+            0,
+            0,
+            0,
+            DISCOVERING as u32,
+        ],
+        ClientState::Requesting(s) => [
+            id,
+            s.tries.retry_at.millis,
+            s.tries.retry as u32,
+            s.server.address,
+            s.server.identifier,
+            s.requested_ip,
+            0,
+            0,
+            0,
+            0,
+            0,
+            0,
+            0,
+            0,
+            0,
+            REQUESTING as u32,
+        ],
+        ClientState::Renewing(s) => [
+            id,
+            s.renew_at.millis,
+            s.rebind_at.millis,
+            s.expires_at.millis,
+            s.rebinding as u32,
+            0,
+            0,
+            0,
+            0,
+            0,
+            0,
+            0,
+            0,
+            0,
+            0,
+            RENEWING as u32,
+        ],
     }
 }
 
-fn is_requesting(s: RequestState, v: [u32; 16]) -> bool {
-    (s.tries.retry_at.millis == v[1])
-        & (s.tries.retry as u32 == v[2])
-        & (s.server.address == v[3])
-        & (s.server.identifier == v[4])
-        & (s.requested_ip == v[5])
-}
-
-fn is_renewing(s: RenewState, v: [u32; 16]) -> bool {
-    (s.renew_at.millis == v[1])
-        & (s.rebind_at.millis == v[2])
-        & (s.expires_at.millis == v[3])
-        & (s.rebinding == (v[4] == 1))
+pub fn same_words(a: [u32; 16], b: [u32; 16]) -> bool {
+    let mut i = 0;
+    while i < 16 {
+        if a[i] != b[i] {
+            return false;
+        }
+        i += 1;
+    }
+    true
 }
 
 // Without a line it is all zero.
 pub fn is_lease(lease: DhcpLease, line: &[u8]) -> bool {
     let record = read(line);
-    let v = record.values;
+    let mut v = record.values;
     let options = lease.options;
     let bytes = options.bytes;
-    is_leased(lease, v) & is_octets(line, v[10], v[11], &bytes, options.len)
+    let stored = is_octets(line, v[10], v[11], &bytes, options.len);
+    v[10] = 0;
+    v[15] = 0;
+    stored & same_words(lease_words(lease), v)
 }
 
-fn is_leased(lease: DhcpLease, v: [u32; 16]) -> bool {
+// The values of a lease's line, but for where its options stand.
+fn lease_words(lease: DhcpLease) -> [u32; 16] {
     let router = lease.router;
     let dns = lease.dns;
-    let list = dns.list;
-    (lease.server.address == v[0])
-        & (lease.server.identifier == v[1])
-        & (lease.address == v[2])
-        & (lease.prefix as u32 == v[3])
-        & is_router(router, v[4], v[5])
-        & (dns.count == wide(v[6]))
-        & (list[0] == v[7])
-        & (list[1] == v[8])
-        & (list[2] == v[9])
-}
-
-fn is_router(router: MaybeNumber, routed: u32, value: u32) -> bool {
+    let d = dns.list;
+    let count = (dns.count % 4294967296) as u32;
+    let len = (lease.options.len % 4294967296) as u32;
     match router {
-        MaybeNumber::Some(n) => (routed == 1) & (n == value),
-        MaybeNumber::None => (routed == 0) & (value == 0),
+        MaybeNumber::None => [
+            lease.server.address,
+            lease.server.identifier,
+            lease.address,
+            lease.prefix as u32,
+            0,
+            0,
+            count,
+            d[0],
+            d[1],
+            d[2],
+            0,
+            len,
+            0,
+            0,
+            0,
+            0,
+        ],
+        MaybeNumber::Some(n) => [
+            lease.server.address,
+            lease.server.identifier,
+            lease.address,
+            lease.prefix as u32,
+            1,
+            n,
+            count,
+            d[0],
+            d[1],
+            d[2],
+            0,
+            len,
+            0,
+            0,
+            0,
+            0,
+        ],
     }
 }
 
-// Generations, counts and the entries in use, place by place.
+// Generations, counts and all places: those that are not in use are zero.
 fn same_tables(a: Tables, b: Tables) -> bool {
-    if a.config_generation != b.config_generation {
-        return false;
-    }
-    same_addrs(a.ip_addrs, b.ip_addrs) & same_routes(a.routes, b.routes)
+    let x = a.ip_addrs;
+    let y = b.ip_addrs;
+    let p = a.routes;
+    let q = b.routes;
+    (a.config_generation == b.config_generation)
+        & (x.count == y.count)
+        & (p.count == q.count)
+        & same_words(addr_words(x), addr_words(y))
+        & same_words(route_words(p), route_words(q))
 }
 
-fn same_addrs(a: AddrTable, b: AddrTable) -> bool {
-    let n = a.count;
-    let x = a.entries;
-    let y = b.entries;
-    if n != b.count {
-        return false;
-    }
-    same_addr(0 < n, x[0], y[0])
-        & same_addr(1 < n, x[1], y[1])
-        & same_addr(2 < n, x[2], y[2])
-        & same_addr(3 < n, x[3], y[3])
+fn addr_words(table: AddrTable) -> [u32; 16] {
+    let entries = table.entries;
+    let a = entries[0];
+    let b = entries[1];
+    let c = entries[2];
+    let d = entries[3];
+    [
+        a.address,
+        a.prefix as u32,
+        a.dhcp as u32,
+        b.address,
+        b.prefix as u32,
+        b.dhcp as u32,
+        c.address,
+        c.prefix as u32,
+        c.dhcp as u32,
+        d.address,
+        d.prefix as u32,
+        d.dhcp as u32,
+        0,
+        0,
+        0,
+        0,
+    ]
 }
 
-// Two entries, where they are in use.
-fn same_addr(in_use: bool, a: IfaceAddr, b: IfaceAddr) -> bool {
-    !in_use | ((a.address == b.address) & (a.prefix == b.prefix) & (a.dhcp == b.dhcp))
-}
-
-fn same_routes(a: RouteTable, b: RouteTable) -> bool {
-    let n = a.count;
-    let x = a.entries;
-    let y = b.entries;
-    if n != b.count {
-        return false;
-    }
-    same_route(0 < n, x[0], y[0])
-        & same_route(1 < n, x[1], y[1])
-        & same_route(2 < n, x[2], y[2])
-        & same_route(3 < n, x[3], y[3])
-}
-
-fn same_route(in_use: bool, a: Route, b: Route) -> bool {
-    !in_use
-        | ((a.network == b.network)
-            & (a.prefix == b.prefix)
-            & (a.router == b.router)
-            & (a.dhcp == b.dhcp))
+fn route_words(table: RouteTable) -> [u32; 16] {
+    let entries = table.entries;
+    let a = entries[0];
+    let b = entries[1];
+    let c = entries[2];
+    let d = entries[3];
+    [
+        a.network,
+        a.prefix as u32,
+        a.router,
+        a.dhcp as u32,
+        b.network,
+        b.prefix as u32,
+        b.router,
+        b.dhcp as u32,
+        c.network,
+        c.prefix as u32,
+        c.router,
+        c.dhcp as u32,
+        d.network,
+        d.prefix as u32,
+        d.router,
+        d.dhcp as u32,
+    ]
 }

@@ -7,6 +7,7 @@ use crate::values::ANSWERS;
 use crate::values::Filled;
 use crate::values::MASK;
 use crate::values::NEW;
+use crate::values::RENEWING;
 use crate::values::START;
 use crate::values::read;
 use trace::line_at;
@@ -27,18 +28,27 @@ pub fn told(text: &[u8], record: Filled, at: usize, post: Post) -> Post {
     called(text, form, post)
 }
 
-// A mask and an option take no time; a new client has no lease.
+// An answer tells the whole post, but for the settings, which are told of a new client alone, and a lease that is not read: in
+// Renewing it is told, and it goes with that state. A mask and an option tell nothing and take no time.
 fn called(text: &[u8], call: usize, before: Post) -> Post {
-    let mut post = before;
-    if call < MASK {
-        let answer = read(line_at(text, before.answer));
-        let a = answer.values;
-        post.moment = a[0];
+    if MASK <= call {
+        return answered(text, before);
     }
-    if call == NEW {
-        post.lease = NOWHERE;
+    let answer = read(line_at(text, before.answer));
+    let a = answer.values;
+    let mut post = untold(before.answer, a[0]);
+    if call != NEW {
+        post.settings = before.settings;
+        post.lease = unread_lease(before);
     }
     answered(text, post)
+}
+
+fn unread_lease(post: Post) -> usize {
+    if post.kind == RENEWING {
+        return NOWHERE;
+    }
+    post.lease
 }
 
 // The post with the lines that follow its next answer's first, up to the answer after that.

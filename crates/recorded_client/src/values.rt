@@ -4,11 +4,14 @@ use libc::STDOUT_FILENO;
 use octets::MaybeNumber;
 use octets::run::up_to;
 
-// Which form a line fills, from 1 on, and its values, the low 32 bits of each; 0 and zeros where it fills none.
+// Which form a line fills, from 1 on, and its values, the low 32 bits of each, with the form once more at FORM; 0 and zeros
+// where it fills none.
 pub struct Filled {
     pub form: usize,
     pub values: [u32; 16],
 }
+
+const FORM: usize = 15;
 
 // Forms: calls that are compared, up to MASK other calls that take time, then `start`, states and the rest of the post, and from
 // ANSWERS on the first lines of answers, in the order of the calls.
@@ -75,6 +78,7 @@ fn fill(form: usize, v: [u64; 16]) -> Filled {
         values[i] = (v[i] % 4294967296) as u32;
         i += 1;
     }
+    values[FORM] = (form % 256) as u32;
     Filled { form, values }
 }
 

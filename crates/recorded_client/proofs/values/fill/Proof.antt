@@ -36,6 +36,12 @@ loop-less c = search needs
 loop-again : tie.Need-loop-again Inv-loop μ-loop
 loop-again c = search needs
 
+cast-values-2 : tie.Need-cast-values-2 Inv-loop μ-loop
+cast-values-2 c = search needs
+
+array-write-values-2 : tie.Need-array-write-values-2 Inv-loop μ-loop
+array-write-values-2 c = search needs
+
 returns : tie.Need-returns Inv-loop μ-loop
 returns c = search needs
 
@@ -54,4 +60,6 @@ fill-spec =
     add-i
     loop-less
     loop-again
+    cast-values-2
+    array-write-values-2
     returns)
