@@ -1,21 +1,20 @@
 -- A whole client with whole tables stays whole, whatever call is made on it. Assumes nothing.
 use Prim.Native.Nat.{ℕ, _≤_}
-use mathlib.Core.Path.{_≡_, refl, sym, ap, _∙_}
+use mathlib.Core.Path.{_≡_, refl, sym}
 use mathlib.Core.Bool.{Bool, true, false, not}
 use mathlib.Core.List.{List, []}
 use mathlib.Core.Option.{Option, none, some}
 use native.Mathlib.Omega.{arith}
-use lib.ListN.{length, take, length-take}
+use lib.ListN.{length-take}
 use borrow.Author.Tests.{le-ltb, le-leb}
 use Rattle.clock.proofs.Choices.{if-true, if-false, if-cases, both-true}
-use Rattle.clock.specs.Choice.{if_then_else_}
 use Rattle.clock.specs.declared.instant.Instant.{Instant}
-use Rattle.octets.specs.Addresses.{unicast, prefixLen}
+use Rattle.octets.specs.Addresses.{unicast}
 use Rattle.octets.proofs.Masks.{length-bound}
 use Rattle.octets.specs.declared.number.MaybeNumber.{MaybeNumber}
 use Rattle.octets.specs.declared.number.MaybeNumber.the-variants.{None, Some}
 use Rattle.wire.specs.Options.{optionData}
-use Rattle.wire.specs.Readings.{headerCheck, addressedTo, transactionId, yourAddress, messageType, addressOf, ifUnicast, addressesOf, unicastOnes, groupsOf}
+use Rattle.wire.specs.Readings.{headerCheck, addressedTo, transactionId, messageType, addressesOf, unicastOnes, groupsOf}
 use Rattle.wire.specs.declared.reply.Checked.{Checked}
 use Rattle.wire.specs.declared.reply.Checked.the-variants as check
 use Rattle.wire.proofs.Stores.{store-sound}
@@ -27,17 +26,15 @@ use Rattle.machine.specs.declared.state.Awaited.{Awaited}
 use Rattle.machine.specs.declared.state.Awaited.the-variants as awaits
 use Rattle.tables.specs.Entries.{all}
 use Rattle.tables.specs.Tables.{addrFits, wholeTables}
-use Rattle.tables.specs.Applied.{applied, leasedAddr, leasedAddrs}
+use Rattle.tables.specs.Applied.{leasedAddr}
 use Rattle.tables.specs.declared.tables.Tables.{Tables}
-use Rattle.tables.specs.declared.apply.MaybeCidr.the-variants.{Absent, Cidr}
-use Rattle.tables.specs.declared.apply.Installed.{Installed}
 use Rattle.tables.proofs.Origins.{whole-applied}
 use Rattle.tables.proofs.Lists.{all-takes}
 use Rattle.client.specs.Settings.{refusalOf}
 use Rattle.client.specs.Leases.{dnsCode, leaseOf, wholeLease, installed, nothing}
 use Rattle.client.specs.Clients.{inState, fresh, created, leaseFits, wholeOr, wholeClient}
 use Rattle.client.specs.Resets.{wholeAll, restarted, dropped, clearedIn, cleared, wasReset}
-use Rattle.client.specs.Judged.{needing, judgedOffer, judgedAddress, judgedAck, judgedAs, judgedKind, isId, judgedSender, afterHeader, judged, maskCode, identifierCode, recipientOf}
+use Rattle.client.specs.Judged.{needing, judgedOffer, judgedAddress, judgedAck, judgedAs, judgedKind, isId, judgedSender, afterHeader, judged, recipientOf}
 use Rattle.client.specs.Taken.{serverOf, holds, heldBy, boundBy, ackLease, ackedAs, acked, entered, offered, replied, processed}
 use Rattle.client.specs.declared.settings.Settings.{Settings}
 use Rattle.client.specs.declared.lease.DhcpLease.{DhcpLease}

@@ -1,5 +1,4 @@
 -- The client, its creation, and number 9 of a client.
-use Prim.Native.Nat.{ℕ}
 use mathlib.Core.Bool.{Bool, true, false}
 use Rattle.octets.specs.declared.number.MaybeNumber.{MaybeNumber}
 use Rattle.octets.specs.declared.number.MaybeNumber.the-variants.{None, Some}

@@ -1,20 +1,18 @@
 -- The lease that a client holds.
 use Prim.Native.Nat.{ℕ}
 use mathlib.Core.Bool.{Bool, false, _&&_}
-use mathlib.Core.List.{List, []}
+use mathlib.Core.List.{List}
 use lib.ListN.{take, replicate}
-use lib.Dec.{leb, ltb, eqb}
+use lib.Dec.{ltb, eqb}
 use Rattle.clock.specs.Choice.{if_then_else_}
 use Rattle.octets.specs.Runs.{sameBytes}
-use Rattle.octets.specs.declared.number.MaybeNumber.{MaybeNumber}
-use Rattle.octets.specs.declared.number.MaybeNumber.the-variants.{None, Some}
+use Rattle.octets.specs.declared.number.MaybeNumber.the-variants.{None}
 use Rattle.wire.specs.Options.{optionData}
 use Rattle.wire.specs.Readings.{router, addressesOf}
 use Rattle.wire.specs.Stored.{emptyStore, storeOf, wholeStore, sameOptions}
 use Rattle.wire.specs.declared.reply.Addresses.{Addresses}
 use Rattle.tables.specs.Applied.{sameRouter}
 use Rattle.tables.specs.declared.apply.Installed.{Installed}
-use Rattle.tables.specs.declared.apply.MaybeCidr.{MaybeCidr}
 use Rattle.tables.specs.declared.apply.MaybeCidr.the-variants.{Absent, Cidr}
 use Rattle.machine.specs.declared.state.DhcpServerInfo.{DhcpServerInfo}
 use Rattle.client.specs.declared.lease.DhcpLease.{DhcpLease}

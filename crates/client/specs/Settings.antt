@@ -8,7 +8,6 @@ use lib.Dec.{ltb}
 use Rattle.clock.specs.Choice.{if_then_else_}
 use Rattle.clock.specs.Durations.{duration}
 use Rattle.clock.specs.Durations as durations
-use Rattle.clock.specs.declared.duration.Duration.{Duration}
 use Rattle.clock.specs.declared.duration.MaybeDuration.{MaybeDuration}
 use Rattle.clock.specs.declared.duration.MaybeDuration.the-variants as time
 use Rattle.octets.specs.Items.{wholeItems}

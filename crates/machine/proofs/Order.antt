@@ -1,8 +1,7 @@
 -- Document 01: the moments of a lease "stand in the order ACK, renew, rebind, expiry when the maximum is absent or at least
 -- 8 ms".
-use Prim.Native.Nat.{ℕ, zero, suc, _+_, _*_, _-_, _/_, _<_, _≤_, min}
-use mathlib.Core.Path.{_≡_, refl}
-use mathlib.Core.Bool.{Bool, true, false}
+use Prim.Native.Nat.{ℕ, zero, suc, _-_, _<_, _≤_, min}
+use mathlib.Core.Path.{_≡_}
 use native.Mathlib.Omega.{arith}
 use borrow.Author.Tests.{ltb-true}
 use lib.Dec.{ltb}
@@ -15,7 +14,7 @@ use Rattle.octets.specs.declared.number.MaybeNumber.{MaybeNumber}
 use Rattle.octets.specs.declared.number.MaybeNumber.the-variants.{None, Some}
 use Rattle.machine.specs.Times.{leaseTime, rowOf, bothRow, renewAfter, rebindAfter}
 use Rattle.machine.specs.declared.times.Row.{Row}
-use Rattle.machine.specs.declared.times.Row.the-variants.{Both, OnlyRenew, OnlyRebind, Neither}
+use Rattle.machine.specs.declared.times.Row.the-variants.{OnlyRenew, OnlyRebind, Neither}
 
 -- renew ≤ rebind ≤ L
 pub record Ordered (l : ℕ) (row : Row) : Type 0 where

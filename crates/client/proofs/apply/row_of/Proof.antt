@@ -1,11 +1,6 @@
 use borrow.Author.Needs.{needs}
 use Rattle.client.proofs.apply.row_of.Statement.{statement}
 use Rattle.client.proofs.apply.row_of.Tie as tie
-use Rattle.client.proofs.apply.row_of.Reads as reads
-use Rattle.client.proofs.apply.row_of.Lts as lts
-use Rattle.machine.proofs.times.Row.of.Reads as of-reads
-use Rattle.machine.proofs.timer.Reads as timer-reads
-use Rattle.wire.proofs.reply.option_seconds.Reads as option-seconds-reads
 
 option-seconds-requires : tie.Need-option-seconds-requires
 option-seconds-requires c κs = search needs

@@ -1,8 +1,6 @@
 use borrow.Author.Needs.{needs}
 use Rattle.client.proofs.judge.is_id.Statement.{statement}
 use Rattle.client.proofs.judge.is_id.Tie as tie
-use Rattle.client.proofs.judge.is_id.Reads as reads
-use Rattle.client.proofs.judge.is_id.Lts as lts
 
 enum-known-found : tie.Need-enum-known-found
 enum-known-found c = search needs

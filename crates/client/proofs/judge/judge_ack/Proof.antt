@@ -1,17 +1,10 @@
-use mathlib.Core.Path.{refl, sym, ap, _∙_}
-use mathlib.Core.Bool.{not}
-use Rattle.clock.proofs.Choices.{if-true, if-false}
+use mathlib.Core.Path.{sym, _∙_}
 use Rattle.client.proofs.Settling.{needing-none, needing-some}
 use Rattle.octets.proofs.Masks.{length-bound}
 use Rattle.client.specs.Judged.{judgedAck}
 use borrow.Author.Needs.{needs}
 use Rattle.client.proofs.judge.judge_ack.Statement.{statement}
 use Rattle.client.proofs.judge.judge_ack.Tie as tie
-use Rattle.client.proofs.judge.judge_ack.Reads as reads
-use Rattle.client.proofs.judge.judge_ack.Lts as lts
-use Rattle.client.proofs.judge.judge_address.Reads as judge-address-reads
-use Rattle.octets.proofs.address.prefix_len.Reads as prefix-len-reads
-use Rattle.wire.proofs.reply.option_address.Reads as option-address-reads
 
 option-address-requires : tie.Need-option-address-requires
 option-address-requires c κs = search needs

@@ -1,16 +1,10 @@
 use mathlib.Core.Path.{refl, sym, ap, _∙_}
-use mathlib.Core.Bool.{not}
-use Rattle.clock.proofs.Choices.{if-true, if-false}
 use Rattle.client.proofs.Settling.{needing-none, needing-some}
 use Rattle.wire.specs.Readings.{ifUnicast}
 use Rattle.client.specs.Judged.{judgedAddress}
 use borrow.Author.Needs.{needs}
 use Rattle.client.proofs.judge.judge_address.Statement.{statement}
 use Rattle.client.proofs.judge.judge_address.Tie as tie
-use Rattle.client.proofs.judge.judge_address.Reads as reads
-use Rattle.client.proofs.judge.judge_address.Lts as lts
-use Rattle.wire.proofs.reply.unicast_only.Reads as unicast-only-reads
-use Rattle.wire.proofs.reply.your_ip.Reads as your-ip-reads
 
 your-ip-requires : tie.Need-your-ip-requires
 your-ip-requires c κs = search needs

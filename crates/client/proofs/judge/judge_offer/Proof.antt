@@ -7,11 +7,6 @@ use Rattle.client.specs.Judged.{judgedOffer}
 use borrow.Author.Needs.{needs}
 use Rattle.client.proofs.judge.judge_offer.Statement.{statement}
 use Rattle.client.proofs.judge.judge_offer.Tie as tie
-use Rattle.client.proofs.judge.judge_offer.Reads as reads
-use Rattle.client.proofs.judge.judge_offer.Lts as lts
-use Rattle.octets.proofs.address.x_is_unicast.Reads as x-is-unicast-reads
-use Rattle.wire.proofs.reply.unicast_only.Reads as unicast-only-reads
-use Rattle.wire.proofs.reply.your_ip.Reads as your-ip-reads
 
 your-ip-requires : tie.Need-your-ip-requires
 your-ip-requires c κs = search needs

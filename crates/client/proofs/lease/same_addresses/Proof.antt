@@ -6,9 +6,6 @@ use Rattle.client.proofs.Numbers.{differ-used, same-used, and-next, cou
 use borrow.Author.Needs.{needs}
 use Rattle.client.proofs.lease.same_addresses.Statement.{statement}
 use Rattle.client.proofs.lease.same_addresses.Tie as tie
-use Rattle.client.proofs.lease.same_addresses.Reads as reads
-use Rattle.client.proofs.lease.same_addresses.Lts as lts
-use Rattle.client.proofs.lease.at_most.Reads as at-most-reads
 
 abbrev Inv-loop : tie.InvT-loop
 Inv-loop x y n i₀ i = (i ≤ n) × ((j : ℕ) → j < i → getD x j 0 ≡ getD y j 0)

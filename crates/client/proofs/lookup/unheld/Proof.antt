@@ -2,9 +2,6 @@ use Rattle.client.proofs.Made.{not-held}
 use borrow.Author.Needs.{needs}
 use Rattle.client.proofs.lookup.unheld.Statement.{statement}
 use Rattle.client.proofs.lookup.unheld.Tie as tie
-use Rattle.client.proofs.lookup.unheld.Reads as reads
-use Rattle.client.proofs.lookup.unheld.Lts as lts
-use Rattle.client.proofs.lease.DhcpLease.zero.Reads as zero-reads
 
 zero-requires : tie.Need-zero-requires
 zero-requires c κs = search needs

@@ -3,8 +3,6 @@ use Rattle.clock.proofs.Choices.{if-true, if-false, tests}
 use mathlib.Core.Path.{refl}
 use Rattle.machine.proofs.state.ack_or_nak.Statement.{statement}
 use Rattle.machine.proofs.state.ack_or_nak.Tie as tie
-use Rattle.machine.proofs.state.ack_or_nak.Reads as reads
-use Rattle.machine.proofs.state.ack_or_nak.Lts as lts
 
 returns : tie.Need-returns
 unfolding ackOrNak

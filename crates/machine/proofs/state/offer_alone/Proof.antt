@@ -3,8 +3,6 @@ use Rattle.clock.proofs.Choices.{if-true, if-false, tests}
 use mathlib.Core.Path.{refl}
 use Rattle.machine.proofs.state.offer_alone.Statement.{statement}
 use Rattle.machine.proofs.state.offer_alone.Tie as tie
-use Rattle.machine.proofs.state.offer_alone.Reads as reads
-use Rattle.machine.proofs.state.offer_alone.Lts as lts
 
 returns : tie.Need-returns
 unfolding offerAlone

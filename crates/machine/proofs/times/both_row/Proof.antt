@@ -3,8 +3,6 @@ use Rattle.clock.proofs.Choices.{if-true, if-false, tests}
 use mathlib.Core.Path.{refl}
 use Rattle.machine.proofs.times.both_row.Statement.{statement}
 use Rattle.machine.proofs.times.both_row.Tie as tie
-use Rattle.machine.proofs.times.both_row.Reads as reads
-use Rattle.machine.proofs.times.both_row.Lts as lts
 
 returns : tie.Need-returns
 unfolding bothRow

@@ -4,8 +4,6 @@ use Rattle.clock.specs.Durations.{duration}
 use borrow.Author.Needs.{needs}
 use Rattle.machine.proofs.times.late.Statement.{statement}
 use Rattle.machine.proofs.times.late.Tie as tie
-use Rattle.machine.proofs.times.late.Reads as reads
-use Rattle.machine.proofs.times.late.Lts as lts
 
 returns : tie.Need-returns
 returns c = ap duration (omega arith)

@@ -2,11 +2,6 @@ use Rattle.machine.proofs.Rows.{lease-free, lease-cut}
 use borrow.Author.Needs.{needs}
 use Rattle.machine.proofs.times.lease_duration.Statement.{statement}
 use Rattle.machine.proofs.times.lease_duration.Tie as tie
-use Rattle.machine.proofs.times.lease_duration.Reads as reads
-use Rattle.machine.proofs.times.lease_duration.Lts as lts
-use Rattle.clock.proofs.duration.Duration.min.Reads as min-reads
-use Rattle.machine.proofs.times.or_default.Reads as or-default-reads
-use Rattle.machine.proofs.times.timer.Reads as timer-reads
 
 timer-requires : tie.Need-timer-requires
 timer-requires c κs = search needs

@@ -1,8 +1,6 @@
 use borrow.Author.Needs.{needs}
 use Rattle.machine.proofs.times.or_default.Statement.{statement}
 use Rattle.machine.proofs.times.or_default.Tie as tie
-use Rattle.machine.proofs.times.or_default.Reads as reads
-use Rattle.machine.proofs.times.or_default.Lts as lts
 
 enum-known-time : tie.Need-enum-known-time
 enum-known-time c = search needs

@@ -1,9 +1,6 @@
 use borrow.Author.Needs.{needs}
 use Rattle.machine.proofs.times.timer.Statement.{statement}
 use Rattle.machine.proofs.times.timer.Tie as tie
-use Rattle.machine.proofs.times.timer.Reads as reads
-use Rattle.machine.proofs.times.timer.Lts as lts
-use Rattle.clock.proofs.duration.Duration.from_secs.Reads as from-secs-reads
 
 enum-known-seconds : tie.Need-enum-known-seconds
 enum-known-seconds c = search needs

@@ -2,14 +2,6 @@ use Rattle.client.proofs.Settling.{ack-same, ack-other}
 use borrow.Author.Needs.{needs}
 use Rattle.client.proofs.client.Client.acked.Statement.{statement}
 use Rattle.client.proofs.client.Client.acked.Tie as tie
-use Rattle.client.proofs.client.Client.acked.Reads as reads
-use Rattle.client.proofs.client.Client.acked.Lts as lts
-use Rattle.client.proofs.client.Client.bound.Reads as bound-reads
-use Rattle.client.proofs.client.Client.entered.Reads as entered-reads
-use Rattle.client.proofs.client.Client.holds.Reads as holds-reads
-use Rattle.client.proofs.client.Client.in_state.Reads as in-state-reads
-use Rattle.client.proofs.client.Client.server.Reads as server-reads
-use Rattle.client.proofs.lease.DhcpLease.of_ack.Reads as of-ack-reads
 
 server-requires : tie.Need-server-requires
 server-requires c κs = search needs

@@ -2,13 +2,6 @@ use Rattle.client.proofs.Settling.{offer-taken, ack-taken, nak-taken, p
 use borrow.Author.Needs.{needs}
 use Rattle.client.proofs.client.Client.apply.Statement.{statement}
 use Rattle.client.proofs.client.Client.apply.Tie as tie
-use Rattle.client.proofs.client.Client.apply.Reads as reads
-use Rattle.client.proofs.client.Client.apply.Lts as lts
-use Rattle.client.proofs.client.Client.acked.Reads as acked-reads
-use Rattle.client.proofs.client.Client.cleared.Reads as cleared-reads
-use Rattle.client.proofs.client.Client.in_state.Reads as in-state-reads
-use Rattle.client.proofs.reset.Settled.taken.Reads as taken-reads
-use Rattle.machine.proofs.state.ClientState.requesting.Reads as requesting-reads
 
 enum-known-verdict : tie.Need-enum-known-verdict
 enum-known-verdict c = search needs

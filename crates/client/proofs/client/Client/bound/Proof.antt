@@ -2,14 +2,6 @@ use Rattle.client.proofs.Settling.{bound-times}
 use borrow.Author.Needs.{needs}
 use Rattle.client.proofs.client.Client.bound.Statement.{statement}
 use Rattle.client.proofs.client.Client.bound.Tie as tie
-use Rattle.client.proofs.client.Client.bound.Reads as reads
-use Rattle.client.proofs.client.Client.bound.Lts as lts
-use Rattle.client.proofs.apply.row_of.Reads as row-of-reads
-use Rattle.client.proofs.settings.Settings.longest_lease.Reads as longest-lease-reads
-use Rattle.machine.proofs.state.ClientState.renewing.Reads as renewing-reads
-use Rattle.machine.proofs.times.Row.times.Reads as times-reads
-use Rattle.machine.proofs.lease_duration.Reads as lease-duration-reads
-use Rattle.wire.proofs.reply.option_seconds.Reads as option-seconds-reads
 
 longest-lease-requires : tie.Need-longest-lease-requires
 longest-lease-requires c κs = search needs

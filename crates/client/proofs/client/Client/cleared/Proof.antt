@@ -1,15 +1,9 @@
 use Rattle.machine.specs.declared.state.ClientState.{ClientState}
-use mathlib.Core.Path.{refl, sym, ap, _∙_}
-use mathlib.Core.Bool.{not}
-use Rattle.clock.proofs.Choices.{if-true, if-false}
+use mathlib.Core.Path.{sym, ap, _∙_}
 use Rattle.client.specs.Resets.{cleared, clearedIn}
 use borrow.Author.Needs.{needs}
 use Rattle.client.proofs.client.Client.cleared.Statement.{statement}
 use Rattle.client.proofs.client.Client.cleared.Tie as tie
-use Rattle.client.proofs.client.Client.cleared.Reads as reads
-use Rattle.client.proofs.client.Client.cleared.Lts as lts
-use Rattle.client.proofs.client.Client.dropped.Reads as dropped-reads
-use Rattle.client.proofs.client.Client.restarted.Reads as restarted-reads
 
 enum-told : tie.Need-enum-told
 enum-told c = search needs

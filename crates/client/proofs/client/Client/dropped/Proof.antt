@@ -6,13 +6,6 @@ use mathlib.Core.Path.{ap, _∙_}
 use borrow.Author.Needs.{needs}
 use Rattle.client.proofs.client.Client.dropped.Statement.{statement}
 use Rattle.client.proofs.client.Client.dropped.Tie as tie
-use Rattle.client.proofs.client.Client.dropped.Reads as reads
-use Rattle.client.proofs.client.Client.dropped.Lts as lts
-use Rattle.client.proofs.client.Client.with_lease.Reads as with-lease-reads
-use Rattle.client.proofs.lease.DhcpLease.installed.Reads as installed-reads
-use Rattle.client.proofs.lease.DhcpLease.zero.Reads as zero-reads
-use Rattle.client.proofs.lease.nothing.Reads as nothing-reads
-use Rattle.tables.proofs.tables.Tables.dhcpv4_apply.Reads as dhcpv4-apply-reads
 
 nothing-requires : tie.Need-nothing-requires
 nothing-requires c κs = search needs

@@ -2,12 +2,6 @@ use Rattle.client.proofs.Settling.{settled}
 use borrow.Author.Needs.{needs}
 use Rattle.client.proofs.client.Client.entered.Statement.{statement}
 use Rattle.client.proofs.client.Client.entered.Tie as tie
-use Rattle.client.proofs.client.Client.entered.Reads as reads
-use Rattle.client.proofs.client.Client.entered.Lts as lts
-use Rattle.client.proofs.client.Client.held.Reads as held-reads
-use Rattle.client.proofs.client.Client.with_lease.Reads as with-lease-reads
-use Rattle.client.proofs.lease.DhcpLease.installed.Reads as installed-reads
-use Rattle.tables.proofs.tables.Tables.dhcpv4_apply.Reads as dhcpv4-apply-reads
 
 installed-requires : tie.Need-installed-requires
 installed-requires c κs = search needs

@@ -6,10 +6,6 @@ use Rattle.client.specs.Lookups.{optionHeld, optionIn}
 use borrow.Author.Needs.{needs}
 use Rattle.client.proofs.client.Client.get.Statement.{statement}
 use Rattle.client.proofs.client.Client.get.Tie as tie
-use Rattle.client.proofs.client.Client.get.Reads as reads
-use Rattle.client.proofs.client.Client.get.Lts as lts
-use Rattle.client.proofs.client.Client.is_whole.Reads as is-whole-reads
-use Rattle.wire.proofs.store.Store.get.Reads as get-reads
 
 is-whole-requires : tie.Need-is-whole-requires
 is-whole-requires c κs = search needs

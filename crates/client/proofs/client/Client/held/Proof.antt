@@ -4,10 +4,6 @@ use Rattle.client.specs.Taken.{heldBy}
 use borrow.Author.Needs.{needs}
 use Rattle.client.proofs.client.Client.held.Statement.{statement}
 use Rattle.client.proofs.client.Client.held.Tie as tie
-use Rattle.client.proofs.client.Client.held.Reads as reads
-use Rattle.client.proofs.client.Client.held.Lts as lts
-use Rattle.client.proofs.lease.DhcpLease.installed.Reads as installed-reads
-use Rattle.client.proofs.lease.nothing.Reads as nothing-reads
 
 enum-told : tie.Need-enum-told
 enum-told c = search needs

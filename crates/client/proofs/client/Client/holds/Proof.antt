@@ -4,9 +4,6 @@ use Rattle.client.specs.Taken.{holds}
 use borrow.Author.Needs.{needs}
 use Rattle.client.proofs.client.Client.holds.Statement.{statement}
 use Rattle.client.proofs.client.Client.holds.Tie as tie
-use Rattle.client.proofs.client.Client.holds.Reads as reads
-use Rattle.client.proofs.client.Client.holds.Lts as lts
-use Rattle.client.proofs.lease.DhcpLease.equals.Reads as equals-reads
 
 enum-told : tie.Need-enum-told
 enum-told c = search needs

@@ -1,16 +1,9 @@
-use Rattle.machine.specs.declared.state.ClientState.{ClientState}
-use mathlib.Core.Path.{refl, sym, ap, _∙_}
-use mathlib.Core.Bool.{not}
-use Rattle.clock.proofs.Choices.{if-true, if-false}
+use mathlib.Core.Path.{sym, ap, _∙_}
 use Rattle.client.specs.Clients.{wholeClient, wholeOr, leaseFits}
 use Rattle.octets.specs.declared.number.MaybeNumber.{MaybeNumber}
 use borrow.Author.Needs.{needs}
 use Rattle.client.proofs.client.Client.is_whole.Statement.{statement}
 use Rattle.client.proofs.client.Client.is_whole.Tie as tie
-use Rattle.client.proofs.client.Client.is_whole.Reads as reads
-use Rattle.client.proofs.client.Client.is_whole.Lts as lts
-use Rattle.client.proofs.client.Client.lease_fits.Reads as lease-fits-reads
-use Rattle.client.proofs.settings.Settings.refusal.Reads as refusal-reads
 
 refusal-requires : tie.Need-refusal-requires
 refusal-requires c κs = search needs

@@ -1,15 +1,9 @@
-use Rattle.machine.specs.declared.state.ClientState.{ClientState}
-use mathlib.Core.Path.{refl, sym, ap, _∙_}
-use mathlib.Core.Bool.{not}
+use mathlib.Core.Path.{refl, sym, _∙_}
 use Rattle.clock.proofs.Choices.{if-true, if-false}
 use Rattle.client.specs.Resets.{wholeAll}
 use borrow.Author.Needs.{needs}
 use Rattle.client.proofs.client.Client.is_whole_with.Statement.{statement}
 use Rattle.client.proofs.client.Client.is_whole_with.Tie as tie
-use Rattle.client.proofs.client.Client.is_whole_with.Reads as reads
-use Rattle.client.proofs.client.Client.is_whole_with.Lts as lts
-use Rattle.client.proofs.client.Client.is_whole.Reads as client-Client-is-whole-reads
-use Rattle.tables.proofs.tables.Tables.is_whole.Reads as tables-Tables-is-whole-reads
 
 is-whole-requires : tie.Need-is-whole-requires
 is-whole-requires c κs = search needs

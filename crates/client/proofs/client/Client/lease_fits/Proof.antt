@@ -4,9 +4,6 @@ use Rattle.client.specs.Clients.{leaseFits}
 use borrow.Author.Needs.{needs}
 use Rattle.client.proofs.client.Client.lease_fits.Statement.{statement}
 use Rattle.client.proofs.client.Client.lease_fits.Tie as tie
-use Rattle.client.proofs.client.Client.lease_fits.Reads as reads
-use Rattle.client.proofs.client.Client.lease_fits.Lts as lts
-use Rattle.client.proofs.lease.DhcpLease.is_whole.Reads as is-whole-reads
 
 enum-told : tie.Need-enum-told
 enum-told c = search needs

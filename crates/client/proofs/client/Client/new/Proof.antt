@@ -2,11 +2,6 @@ use Rattle.client.proofs.Settling.{made-fresh, made-none}
 use borrow.Author.Needs.{needs}
 use Rattle.client.proofs.client.Client.new.Statement.{statement}
 use Rattle.client.proofs.client.Client.new.Tie as tie
-use Rattle.client.proofs.client.Client.new.Reads as reads
-use Rattle.client.proofs.client.Client.new.Lts as lts
-use Rattle.client.proofs.client.Client.fresh.Reads as fresh-reads
-use Rattle.client.proofs.client.Client.zero.Reads as zero-reads
-use Rattle.client.proofs.settings.Settings.refusal.Reads as refusal-reads
 
 refusal-requires : tie.Need-refusal-requires
 refusal-requires c κs = search needs

@@ -6,12 +6,6 @@ use mathlib.Core.Bool.{not}
 use borrow.Author.Needs.{needs}
 use Rattle.client.proofs.client.Client.process.Statement.{statement}
 use Rattle.client.proofs.client.Client.process.Tie as tie
-use Rattle.client.proofs.client.Client.process.Reads as reads
-use Rattle.client.proofs.client.Client.process.Lts as lts
-use Rattle.client.proofs.client.Client.apply.Reads as apply-reads
-use Rattle.client.proofs.client.Client.is_whole_with.Reads as is-whole-with-reads
-use Rattle.client.proofs.client.Client.recipient.Reads as recipient-reads
-use Rattle.client.proofs.judge.Recipient.judge.Reads as judge-reads
 
 is-whole-with-requires : tie.Need-is-whole-with-requires
 is-whole-with-requires c κs = search needs

@@ -1,16 +1,11 @@
-use Rattle.machine.specs.declared.state.ClientState.{ClientState}
 use mathlib.Core.Path.{refl, sym, ap, _∙_}
 use mathlib.Core.Bool.{not}
-use Rattle.clock.proofs.Choices.{if-true, if-false}
+use Rattle.clock.proofs.Choices.{if-true}
 use Rattle.client.specs.Resets.{wasReset}
 use Rattle.client.proofs.Settling.{reset-done}
 use borrow.Author.Needs.{needs}
 use Rattle.client.proofs.client.Client.reset.Statement.{statement}
 use Rattle.client.proofs.client.Client.reset.Tie as tie
-use Rattle.client.proofs.client.Client.reset.Reads as reads
-use Rattle.client.proofs.client.Client.reset.Lts as lts
-use Rattle.client.proofs.client.Client.cleared.Reads as cleared-reads
-use Rattle.client.proofs.client.Client.is_whole_with.Reads as is-whole-with-reads
 
 is-whole-with-requires : tie.Need-is-whole-with-requires
 is-whole-with-requires c κs = search needs

@@ -2,9 +2,6 @@ use Rattle.client.proofs.Made.{restarted-client}
 use borrow.Author.Needs.{needs}
 use Rattle.client.proofs.client.Client.restarted.Statement.{statement}
 use Rattle.client.proofs.client.Client.restarted.Tie as tie
-use Rattle.client.proofs.client.Client.restarted.Reads as reads
-use Rattle.client.proofs.client.Client.restarted.Lts as lts
-use Rattle.client.proofs.client.Client.in_state.Reads as in-state-reads
 
 in-state-requires : tie.Need-in-state-requires
 in-state-requires c κs = search needs

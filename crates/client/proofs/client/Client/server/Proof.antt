@@ -4,8 +4,6 @@ use Rattle.client.specs.Taken.{serverOf}
 use borrow.Author.Needs.{needs}
 use Rattle.client.proofs.client.Client.server.Statement.{statement}
 use Rattle.client.proofs.client.Client.server.Tie as tie
-use Rattle.client.proofs.client.Client.server.Reads as reads
-use Rattle.client.proofs.client.Client.server.Lts as lts
 
 enum-told : tie.Need-enum-told
 enum-told c = search needs

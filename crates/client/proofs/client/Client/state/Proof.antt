@@ -1,4 +1,3 @@
-use Rattle.machine.specs.declared.state.ClientState.{ClientState}
 use mathlib.Core.Path.{refl, sym, ap, _∙_}
 use mathlib.Core.Bool.{not}
 use Rattle.clock.proofs.Choices.{if-true, if-false}
@@ -6,9 +5,6 @@ use Rattle.client.specs.Lookups.{standing}
 use borrow.Author.Needs.{needs}
 use Rattle.client.proofs.client.Client.state.Statement.{statement}
 use Rattle.client.proofs.client.Client.state.Tie as tie
-use Rattle.client.proofs.client.Client.state.Reads as reads
-use Rattle.client.proofs.client.Client.state.Lts as lts
-use Rattle.client.proofs.client.Client.is_whole.Reads as is-whole-reads
 
 is-whole-requires : tie.Need-is-whole-requires
 is-whole-requires c κs = search needs

@@ -2,10 +2,6 @@ use Rattle.client.proofs.Made.{zero-client}
 use borrow.Author.Needs.{needs}
 use Rattle.client.proofs.client.Client.zero.Statement.{statement}
 use Rattle.client.proofs.client.Client.zero.Tie as tie
-use Rattle.client.proofs.client.Client.zero.Reads as reads
-use Rattle.client.proofs.client.Client.zero.Lts as lts
-use Rattle.client.proofs.lease.DhcpLease.zero.Reads as lease-DhcpLease-zero-reads
-use Rattle.client.proofs.settings.Settings.zero.Reads as settings-Settings-zero-reads
 
 zero-requires : tie.Need-zero-requires
 zero-requires c κs = search needs

@@ -3,11 +3,6 @@ use Rattle.client.proofs.Settling.{needing-none, needing-some, header-p
 use borrow.Author.Needs.{needs}
 use Rattle.client.proofs.judge.Recipient.judge.Statement.{statement}
 use Rattle.client.proofs.judge.Recipient.judge.Tie as tie
-use Rattle.client.proofs.judge.Recipient.judge.Reads as reads
-use Rattle.client.proofs.judge.Recipient.judge.Lts as lts
-use Rattle.client.proofs.judge.Recipient.judge_sender.Reads as judge-sender-reads
-use Rattle.wire.proofs.reply.check_header.Reads as check-header-reads
-use Rattle.wire.proofs.reply.message_type.Reads as message-type-reads
 
 check-header-requires : tie.Need-check-header-requires
 check-header-requires c κs = search needs

@@ -4,11 +4,6 @@ use Rattle.machine.specs.declared.state.Awaited.the-variants.{Offer, Ack, Nak, 
 use borrow.Author.Needs.{needs}
 use Rattle.client.proofs.judge.Recipient.judge_kind.Statement.{statement}
 use Rattle.client.proofs.judge.Recipient.judge_kind.Tie as tie
-use Rattle.client.proofs.judge.Recipient.judge_kind.Reads as reads
-use Rattle.client.proofs.judge.Recipient.judge_kind.Lts as lts
-use Rattle.client.proofs.judge.judge_ack.Reads as judge-ack-reads
-use Rattle.client.proofs.judge.judge_offer.Reads as judge-offer-reads
-use Rattle.machine.proofs.state.ClientState.awaited.Reads as awaited-reads
 
 awaited-requires : tie.Need-awaited-requires
 awaited-requires c κs = search needs

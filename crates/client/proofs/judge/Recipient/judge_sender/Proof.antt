@@ -7,13 +7,6 @@ use Rattle.octets.specs.declared.number.MaybeNumber.{MaybeNumber}
 use borrow.Author.Needs.{needs}
 use Rattle.client.proofs.judge.Recipient.judge_sender.Statement.{statement}
 use Rattle.client.proofs.judge.Recipient.judge_sender.Tie as tie
-use Rattle.client.proofs.judge.Recipient.judge_sender.Reads as reads
-use Rattle.client.proofs.judge.Recipient.judge_sender.Lts as lts
-use Rattle.client.proofs.judge.Recipient.judge_kind.Reads as judge-kind-reads
-use Rattle.client.proofs.judge.is_id.Reads as is-id-reads
-use Rattle.wire.proofs.reply.is_addressed_to.Reads as is-addressed-to-reads
-use Rattle.wire.proofs.reply.option_address.Reads as option-address-reads
-use Rattle.wire.proofs.reply.transaction_id.Reads as transaction-id-reads
 
 is-addressed-to-requires : tie.Need-is-addressed-to-requires
 is-addressed-to-requires c κs = search needs

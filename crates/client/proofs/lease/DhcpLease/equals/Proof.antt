@@ -2,11 +2,6 @@ use Rattle.client.proofs.Made.{lease-same}
 use borrow.Author.Needs.{needs}
 use Rattle.client.proofs.lease.DhcpLease.equals.Statement.{statement}
 use Rattle.client.proofs.lease.DhcpLease.equals.Tie as tie
-use Rattle.client.proofs.lease.DhcpLease.equals.Reads as reads
-use Rattle.client.proofs.lease.DhcpLease.equals.Lts as lts
-use Rattle.client.proofs.lease.DhcpLease.same_terms.Reads as same-terms-reads
-use Rattle.client.proofs.lease.same_addresses.Reads as same-addresses-reads
-use Rattle.wire.proofs.store.Store.equals.Reads as equals-reads
 
 same-terms-requires : tie.Need-same-terms-requires
 same-terms-requires c κs = search needs

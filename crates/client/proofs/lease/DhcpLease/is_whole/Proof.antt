@@ -4,9 +4,6 @@ use mathlib.Core.Path.{refl}
 use borrow.Author.Needs.{needs}
 use Rattle.client.proofs.lease.DhcpLease.is_whole.Statement.{statement}
 use Rattle.client.proofs.lease.DhcpLease.is_whole.Tie as tie
-use Rattle.client.proofs.lease.DhcpLease.is_whole.Reads as reads
-use Rattle.client.proofs.lease.DhcpLease.is_whole.Lts as lts
-use Rattle.wire.proofs.store.Store.is_whole.Reads as is-whole-reads
 
 returns : tie.Need-returns
 unfolding wholeLease

@@ -1,11 +1,6 @@
 use borrow.Author.Needs.{needs}
 use Rattle.client.proofs.lease.DhcpLease.of_ack.Statement.{statement}
 use Rattle.client.proofs.lease.DhcpLease.of_ack.Tie as tie
-use Rattle.client.proofs.lease.DhcpLease.of_ack.Reads as reads
-use Rattle.client.proofs.lease.DhcpLease.of_ack.Lts as lts
-use Rattle.wire.proofs.reply.option_addresses.Reads as option-addresses-reads
-use Rattle.wire.proofs.reply.router.Reads as router-reads
-use Rattle.wire.proofs.store.Store.of_reply.Reads as of-reply-reads
 
 router-requires : tie.Need-router-requires
 router-requires c κs = search needs

@@ -1,9 +1,6 @@
 use borrow.Author.Needs.{needs}
 use Rattle.client.proofs.lease.DhcpLease.same_terms.Statement.{statement}
 use Rattle.client.proofs.lease.DhcpLease.same_terms.Tie as tie
-use Rattle.client.proofs.lease.DhcpLease.same_terms.Reads as reads
-use Rattle.client.proofs.lease.DhcpLease.same_terms.Lts as lts
-use Rattle.tables.proofs.same_router.Reads as same-router-reads
 
 same-router-requires : tie.Need-same-router-requires
 same-router-requires c κs = search needs

@@ -2,9 +2,6 @@ use Rattle.client.proofs.Made.{zero-lease}
 use borrow.Author.Needs.{needs}
 use Rattle.client.proofs.lease.DhcpLease.zero.Statement.{statement}
 use Rattle.client.proofs.lease.DhcpLease.zero.Tie as tie
-use Rattle.client.proofs.lease.DhcpLease.zero.Reads as reads
-use Rattle.client.proofs.lease.DhcpLease.zero.Lts as lts
-use Rattle.wire.proofs.store.Store.new.Reads as new-reads
 
 new-requires : tie.Need-new-requires
 new-requires c κs = search needs

@@ -3,8 +3,6 @@ use Rattle.clock.proofs.Choices.{if-true, if-false}
 use mathlib.Core.Path.{refl}
 use Rattle.client.proofs.settings.Settings.is_over_cap.Statement.{statement}
 use Rattle.client.proofs.settings.Settings.is_over_cap.Tie as tie
-use Rattle.client.proofs.settings.Settings.is_over_cap.Reads as reads
-use Rattle.client.proofs.settings.Settings.is_over_cap.Lts as lts
 
 returns : tie.Need-returns
 unfolding overCap

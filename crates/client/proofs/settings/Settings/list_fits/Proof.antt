@@ -3,8 +3,6 @@ use Rattle.clock.proofs.Choices.{if-true, if-false}
 use mathlib.Core.Path.{refl}
 use Rattle.client.proofs.settings.Settings.list_fits.Statement.{statement}
 use Rattle.client.proofs.settings.Settings.list_fits.Tie as tie
-use Rattle.client.proofs.settings.Settings.list_fits.Reads as reads
-use Rattle.client.proofs.settings.Settings.list_fits.Lts as lts
 
 returns : tie.Need-returns
 unfolding listFits

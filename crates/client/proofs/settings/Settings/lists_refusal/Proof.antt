@@ -6,10 +6,6 @@ use mathlib.Core.Bool.{not}
 use borrow.Author.Needs.{needs}
 use Rattle.client.proofs.settings.Settings.lists_refusal.Statement.{statement}
 use Rattle.client.proofs.settings.Settings.lists_refusal.Tie as tie
-use Rattle.client.proofs.settings.Settings.lists_refusal.Reads as reads
-use Rattle.client.proofs.settings.Settings.lists_refusal.Lts as lts
-use Rattle.client.proofs.settings.Settings.list_fits.Reads as list-fits-reads
-use Rattle.client.proofs.settings.Settings.size_refusal.Reads as size-refusal-reads
 
 returns : tie.Need-returns
 unfolding listsRefusal

@@ -3,8 +3,6 @@ use Rattle.clock.proofs.Choices.{if-true, if-false}
 use mathlib.Core.Path.{refl}
 use Rattle.client.proofs.settings.Settings.longest_lease.Statement.{statement}
 use Rattle.client.proofs.settings.Settings.longest_lease.Tie as tie
-use Rattle.client.proofs.settings.Settings.longest_lease.Reads as reads
-use Rattle.client.proofs.settings.Settings.longest_lease.Lts as lts
 
 returns : tie.Need-returns
 unfolding maximumOf

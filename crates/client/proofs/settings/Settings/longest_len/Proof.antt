@@ -6,10 +6,6 @@ use Rattle.client.proofs.Refusals.{list-within, listed-longest, default
 use borrow.Author.Needs.{needs}
 use Rattle.client.proofs.settings.Settings.longest_len.Statement.{statement}
 use Rattle.client.proofs.settings.Settings.longest_len.Tie as tie
-use Rattle.client.proofs.settings.Settings.longest_len.Reads as reads
-use Rattle.client.proofs.settings.Settings.longest_len.Lts as lts
-use Rattle.client.proofs.settings.Settings.message.Reads as message-reads
-use Rattle.message.proofs.message_len.Reads as message-len-reads
 
 name-size : (c : tie.Start) → length (c .args .self .name) ≡ 63
 name-size c = search needs

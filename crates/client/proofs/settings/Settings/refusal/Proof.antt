@@ -5,10 +5,6 @@ use mathlib.Core.Bool.{not}
 use borrow.Author.Needs.{needs}
 use Rattle.client.proofs.settings.Settings.refusal.Statement.{statement}
 use Rattle.client.proofs.settings.Settings.refusal.Tie as tie
-use Rattle.client.proofs.settings.Settings.refusal.Reads as reads
-use Rattle.client.proofs.settings.Settings.refusal.Lts as lts
-use Rattle.client.proofs.settings.Medium.is_ethernet.Reads as is-ethernet-reads
-use Rattle.client.proofs.settings.Settings.lists_refusal.Reads as lists-refusal-reads
 
 is-ethernet-requires : tie.Need-is-ethernet-requires
 is-ethernet-requires c κs = search needs

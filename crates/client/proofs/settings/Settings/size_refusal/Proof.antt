@@ -8,10 +8,6 @@ use Prim.Native.Nat.{_-_}
 use borrow.Author.Needs.{needs}
 use Rattle.client.proofs.settings.Settings.size_refusal.Statement.{statement}
 use Rattle.client.proofs.settings.Settings.size_refusal.Tie as tie
-use Rattle.client.proofs.settings.Settings.size_refusal.Reads as reads
-use Rattle.client.proofs.settings.Settings.size_refusal.Lts as lts
-use Rattle.client.proofs.settings.Settings.is_over_cap.Reads as is-over-cap-reads
-use Rattle.client.proofs.settings.Settings.longest_len.Reads as longest-len-reads
 
 longest-len-requires : tie.Need-longest-len-requires
 longest-len-requires c κs = search needs

@@ -1,10 +1,6 @@
 use borrow.Author.Needs.{needs}
 use Rattle.machine.proofs.state.ClientState.awaited.Statement.{statement}
 use Rattle.machine.proofs.state.ClientState.awaited.Tie as tie
-use Rattle.machine.proofs.state.ClientState.awaited.Reads as reads
-use Rattle.machine.proofs.state.ClientState.awaited.Lts as lts
-use Rattle.machine.proofs.state.ack_or_nak.Reads as ack-or-nak-reads
-use Rattle.machine.proofs.state.offer_alone.Reads as offer-alone-reads
 
 enum-told : tie.Need-enum-told
 enum-told c = search needs

@@ -1,9 +1,6 @@
 use borrow.Author.Needs.{needs}
 use Rattle.machine.proofs.state.ClientState.renewing.Statement.{statement}
 use Rattle.machine.proofs.state.ClientState.renewing.Tie as tie
-use Rattle.machine.proofs.state.ClientState.renewing.Reads as reads
-use Rattle.machine.proofs.state.ClientState.renewing.Lts as lts
-use Rattle.clock.proofs.instant.Instant.add.Reads as add-reads
 
 add-requires : tie.Need-add-requires
 add-requires c κs = search needs

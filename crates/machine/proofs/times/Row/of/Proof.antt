@@ -2,9 +2,6 @@ use Rattle.machine.proofs.Rows.{renew-before, renew-late, rebind-before
 use borrow.Author.Needs.{needs}
 use Rattle.machine.proofs.times.Row.of.Statement.{statement}
 use Rattle.machine.proofs.times.Row.of.Tie as tie
-use Rattle.machine.proofs.times.Row.of.Reads as reads
-use Rattle.machine.proofs.times.Row.of.Lts as lts
-use Rattle.machine.proofs.times.both_row.Reads as both-row-reads
 
 enum-known-renew : tie.Need-enum-known-renew
 enum-known-renew c = search needs

@@ -2,11 +2,6 @@ use Rattle.machine.proofs.Rows.{both-times, renew-times, rebind-times, 
 use borrow.Author.Needs.{needs}
 use Rattle.machine.proofs.times.Row.times.Statement.{statement}
 use Rattle.machine.proofs.times.Row.times.Tie as tie
-use Rattle.machine.proofs.times.Row.times.Reads as reads
-use Rattle.machine.proofs.times.Row.times.Lts as lts
-use Rattle.clock.proofs.duration.Duration.min.Reads as min-reads
-use Rattle.machine.proofs.times.half.Reads as half-reads
-use Rattle.machine.proofs.times.late.Reads as late-reads
 
 enum-known-self : tie.Need-enum-known-self
 enum-known-self c = search needs
