@@ -14,7 +14,7 @@ use Rattle.octets.specs.Items.{wholeItems}
 use Rattle.octets.specs.declared.number.MaybeNumber.{MaybeNumber}
 use Rattle.octets.specs.declared.number.MaybeNumber.the-variants.{None, Some}
 use Rattle.message.specs.Messages.{message}
-use Rattle.message.specs.Written.{listFits}
+use Rattle.message.specs.Written.{nameLimit, extraLimit, listFits}
 use Rattle.message.specs.declared.message.Message.{Message}
 use Rattle.client.specs.declared.settings.Settings.{Settings}
 use Rattle.client.specs.declared.settings.Medium.{Medium}
@@ -97,9 +97,9 @@ sizeRefusal s =
 -- 3 name over 63 octets; 4 request list over 64; 5 extra options over 255 octets.
 unfoldable pub listsRefusal : Settings → MaybeNumber
 listsRefusal s =
-    if ltb 63 (s .«name_len») then Some 3
+    if ltb nameLimit (s .«name_len») then Some 3
     else if not (listFits (s .listed) (s .«list_len»)) then Some 4
-    else if ltb 255 (s .«extra_len») then Some 5
+    else if ltb extraLimit (s .«extra_len») then Some 5
     else sizeRefusal s
 
 -- The first of 1 to 7 that refuses settings: 1 medium not Ethernet; 2 MTU outside 576 to 1,500; then the above.
@@ -113,6 +113,6 @@ refusalOf s =
 -- For contracts within this crate, which no public one cites: settings whose counts are within their limits.
 pub record Counted (s : Settings) : Type 0 where
   pub mtu : 576 ≤ s .mtu
-  pub name : s .«name_len» ≤ 63
+  pub name : s .«name_len» ≤ nameLimit
   pub list : listFits (s .listed) (s .«list_len») ≡ true
-  pub extra : s .«extra_len» ≤ 255
+  pub extra : s .«extra_len» ≤ extraLimit

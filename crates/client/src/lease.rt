@@ -6,6 +6,7 @@ use machine::DhcpServerInfo;
 use octets::MaybeNumber;
 use tables::Installed;
 use tables::MaybeCidr;
+use tables::PREFIX_LIMIT;
 use wire::Addresses;
 use wire::Store;
 
@@ -21,8 +22,6 @@ pub struct DhcpLease {
     // All options of the ACK that fit.
     pub options: Store,
 }
-
-const PREFIX_LIMIT: u8 = 32;
 
 const DNS_LIMIT: usize = 3;
 

@@ -7,6 +7,9 @@ use clock::Duration;
 use clock::MaybeDuration;
 use message::Answer;
 use message::Message;
+use message::message::EXTRA_LIMIT;
+use message::message::LIST_LIMIT;
+use message::message::NAME_LIMIT;
 use octets::MaybeNumber;
 
 pub enum Medium {
@@ -37,16 +40,10 @@ pub struct Settings {
     pub maximum: Duration,
 }
 
-// Limits of document 01's numbers.
+// Limits of document 01's number 2.
 const MTU_LEAST: u16 = 576;
 
 const MTU_MOST: u16 = 1500;
-
-const NAME_LIMIT: usize = 63;
-
-const LIST_LIMIT: usize = 64;
-
-const EXTRA_LIMIT: usize = 255;
 
 // IPv4 header of 20 octets and UDP header of 8, which go before a message; and with the longest IPv4 header, of 60.
 const HEADERS: u16 = 28;

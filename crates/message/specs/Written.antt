@@ -14,17 +14,27 @@ use Rattle.message.specs.declared.message.Message.{Message}
 use Rattle.message.specs.declared.message.Answer.{Answer}
 use Rattle.message.specs.declared.message.Answer.the-variants.{Length, Refused}
 
+-- Limits of a name, a request list and the extra options, in octets (document 01's numbers 3, 4 and 5).
+abbrev pub nameLimit : ℕ
+nameLimit = 63
+
+abbrev pub listLimit : ℕ
+listLimit = 64
+
+abbrev pub extraLimit : ℕ
+extraLimit = 255
+
 -- Whether a request list of n codes is within its limit, if there is one.
 unfoldable pub listFits : Bool → ℕ → Bool
-listFits asks n = if asks then leb n 64 else true
+listFits asks n = if asks then leb n listLimit else true
 
 -- A message's length, or a refusal: 3 name over 63 octets; 4 request list over 64, where there is one; 5 extra options
 -- over 255 octets or not whole items.
 unfoldable pub measured : Message → List ℕ → List ℕ → List ℕ → Answer
 measured m name list extra =
-    if ltb 63 (length name) then Refused 3
+    if ltb nameLimit (length name) then Refused 3
     else if not (listFits (m .asks) (length list)) then Refused 4
-    else if ltb 255 (length extra) then Refused 5
+    else if ltb extraLimit (length extra) then Refused 5
     else if not (wholeItems extra) then Refused 5
     else Length (length (message m name list extra))
 

@@ -35,11 +35,11 @@ pub enum Answer {
 }
 
 // Limits of document 01's numbers 3, 4 and 5.
-const NAME_LIMIT: usize = 63;
+pub const NAME_LIMIT: usize = 63;
 
-const LIST_LIMIT: usize = 64;
+pub const LIST_LIMIT: usize = 64;
 
-const EXTRA_LIMIT: usize = 255;
+pub const EXTRA_LIMIT: usize = 255;
 
 // The length of a message, before it is written.
 pub fn message_len(m: Message, name: &[u8], list: &[u8], extra: &[u8]) -> Answer

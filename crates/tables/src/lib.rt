@@ -25,4 +25,5 @@ pub use manual::Changed;
 pub use manual::Outcome;
 pub use route::Route;
 pub use route::RouteTable;
+pub use tables::PREFIX_LIMIT;
 pub use tables::Tables;

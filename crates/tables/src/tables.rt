@@ -11,7 +11,7 @@ use crate::route::RouteTable;
 pub(crate) const PLACES: usize = 4;
 
 // Bits of an address.
-pub(crate) const PREFIX_LIMIT: u8 = 32;
+pub const PREFIX_LIMIT: u8 = 32;
 
 pub struct Tables {
     pub ip_addrs: AddrTable,
