@@ -10,8 +10,7 @@ use lib.Dec.{eqb}
 use borrow.Author.Tests.{eq-eqb, ne-eqb, eqb-true, eqb-false}
 use Rattle.clock.proofs.Choices.{if-true, if-false, if-cases}
 use Rattle.octets.specs.Runs.{sameBytes}
-use Rattle.octets.proofs.Runs.{same-lengths}
-use Rattle.wire.proofs.Stores.{take-most}
+use Rattle.octets.proofs.Runs.{same-lengths, take-most}
 
 -- the first n are not the same where one of them differs
 differ-at : (n i : ℕ) (x y : List ℕ) → i < n → n ≤ length x → n ≤ length y → (getD x i 0 ≡ getD y i 0 → ⊥) → false ≡ sameBytes (take n x) (take n y)

@@ -2,9 +2,10 @@
 use mathlib.Core.Path.{_≡_, refl, sym, ap, _∙_}
 use mathlib.Core.Bool.{Bool, true, false}
 use mathlib.Core.List.{List, [], _∷_, _++_, append-assoc, append-nil}
-use Prim.Native.Nat.{ℕ, zero, suc, _-_, _≤_, _<_}
+use Prim.Native.Nat.{ℕ, zero, suc, _-_, _≤_, _<_, min}
 use native.Mathlib.Nat.{le-of-suc-le-suc, not-suc-le-zero}
 use native.Mathlib.Omega.{arith}
+use native.Mathlib.Decide.{decLe}
 use lib.ListN.{length, take, drop, getD, set, length-append, length-drop, drop-of-length-le}
 use lib.Seq.{take-at, drop-at, drop-drop, take-all}
 use lib.Dec.{eqb}
@@ -135,3 +136,10 @@ same-lengths [] [] h = absurd (h refl)
 same-lengths [] (b ∷ y) h = refl
 same-lengths (a ∷ x) [] h = refl
 same-lengths (a ∷ x) (b ∷ y) h = else-false (eqb a b) (same-lengths x y (λ e. h (ap suc e)))
+
+-- no more is in use than there is
+pub take-most : {A : Type 0} (xs : List A) (n size : ℕ) → length xs ≡ size → take (min n size) xs ≡ take n xs
+take-most xs n size e = elim (decLe n size) [
+  | yes h ↦ let m : min n size ≡ n = omega arith in rw m
+  | no h ↦ take-all (min n size) xs (omega arith) ∙ sym (take-all n xs (omega arith))
+]

@@ -4,12 +4,12 @@ use Prim.Native.Nat.{ℕ, suc, _+_, _-_, _≤_, _<_, min}
 use mathlib.Core.Path.{_≡_, refl, ap, sym, _∙_}
 use mathlib.Core.Bool.{Bool, true, false}
 use mathlib.Core.List.{List, [], _∷_, _++_, append-assoc, append-nil}
-use native.Mathlib.Decide.{decLe}
 use native.Mathlib.Numerals.{add-one}
 use native.Mathlib.Omega.{arith}
 use mathlib.Core.Option.{none, some}
 use lib.ListN.{length, getElem?, take, drop, getD, set, replicate, length-append, length-take, drop-of-length-le}
-use lib.Seq.{take-suc, take-all, drop-cons, getD-take, set-append-seam}
+use lib.Seq.{take-suc, drop-cons, getD-take, set-append-seam}
+use Rattle.octets.proofs.Runs.{take-most}
 use Rattle.tables.specs.Entries.{only, places, inPlaces, entered}
 use Rattle.tables.proofs.Lists.{only-takes, only-passes, only-append, entered-room, at-past, at-place}
 
@@ -30,17 +30,11 @@ one-more z x xs rows n e l h =
     (rw (e, l, room) (set-next z x xs (omega arith)), rw (l, room) (simp length-append (omega arith)))
 
 -- a count that says more than there are places counts them all
-pub take-in-use : {A : Type 0} (n : ℕ) (rows : List A) → length rows ≡ places → take (min n places) rows ≡ take n rows
-take-in-use n rows h = elim (decLe n places) [
-  | yes l ↦ let e : min n places ≡ n = omega arith in rw e refl
-  | no g ↦ take-all (min n places) rows (omega arith) ∙ sym (take-all n rows (omega arith))
-]
-
 pub length-in-use : {A : Type 0} (n m : ℕ) (rows : List A) → length rows ≡ places → n ≡ min m places → n ≡ length (take m rows)
 length-in-use n m rows h e = rw (length-take m rows, h) e
 
 pub in-used : {A B : Type 0} (f : List A → B) (n m : ℕ) (rows : List A) → length rows ≡ places → n ≡ min m places → f (take m rows) ≡ f (take n rows)
-in-used f n m rows h e = rw e (ap f (sym (take-in-use m rows h)))
+in-used f n m rows h e = rw e (ap f (sym (take-most rows m places h)))
 
 -- where a loop stands at entry i that takes those which pass a test
 pub record Taken {A : Type 0} (test : A → Bool) (z : A) (rows : List A) (n : ℕ) (kept : List A) (k i : ℕ) : Type 0 where
@@ -93,7 +87,7 @@ module _ {A : Type 0} (test : A → Bool) (z d : A) (rows : List A) (n : ℕ) wh
       → (kept ≡ inPlaces z (only test (take m rows))) × (k ≡ length (only test (take m rows)))
   taken-all m kept k i t h e =
       let last : i ≡ min m places = omega (arith, t .within) in
-      let used : only test (take i rows) ≡ only test (take m rows) = rw last (ap (only test) (take-in-use m rows (t .long))) in
+      let used : only test (take i rows) ≡ only test (take m rows) = rw last (ap (only test) (take-most rows m places (t .long))) in
       (t .array ∙ ap (inPlaces z) used, t .count ∙ ap length used)
 
 -- where a loop stands at entry i whose answer f over the entries in use is the one over those still to come

@@ -9,7 +9,7 @@ ghost use Rattle.tables.specs.Lookups.{addrOr, isAt};
 use crate::lookup::AddrAt;
 use crate::tables::PLACES;
 use crate::tables::PREFIX_LIMIT;
-use crate::tables::in_use;
+use octets::number::at_most;
 
 // An address of the interface; dhcp tells one that DHCP entered from one put in by hand.
 pub struct IfaceAddr {
@@ -52,7 +52,7 @@ impl AddrTable {
         ensures { λ r. ⌜ r ≡ addrTable (only (addrKept out) (addrsOf self)) ⌝ }
     {
         let entries = self.entries;
-        let n = in_use(self.count);
+        let n = at_most(self.count, PLACES);
         let mut kept = [IfaceAddr {
             address: 0,
             prefix: 0,
@@ -95,7 +95,7 @@ impl AddrTable {
     pub(crate) fn len(self) -> usize
         ensures { λ r. ⌜ r ≡ length (addrsOf self) ⌝ }
     {
-        in_use(self.count)
+        at_most(self.count, PLACES)
     }
 
     // The entry at a place, if that is in use.
@@ -103,7 +103,7 @@ impl AddrTable {
         ensures { λ r. ⌜ r ≡ addrOr (getElem? (addrsOf self) place) ⌝ }
     {
         let entries = self.entries;
-        let n = in_use(self.count);
+        let n = at_most(self.count, PLACES);
         if n <= place {
             return AddrAt::Absent;
         }
@@ -135,7 +135,7 @@ impl AddrTable {
         ensures { λ r. ⌜ r ≡ any (isAt address) (addrsOf self) ⌝ }
     {
         let entries = self.entries;
-        let n = in_use(self.count);
+        let n = at_most(self.count, PLACES);
         let mut i: usize = 0;
         while i < n {
             let entry = entries[i];

@@ -9,7 +9,7 @@ ghost use Rattle.tables.specs.Lookups.{routeOr, isDefault};
 use crate::lookup::RouteAt;
 use crate::tables::PLACES;
 use crate::tables::PREFIX_LIMIT;
-use crate::tables::in_use;
+use octets::number::at_most;
 
 // A route; dhcp tells one that DHCP entered from one put in by hand.
 pub struct Route {
@@ -71,7 +71,7 @@ impl RouteTable {
         ensures { λ r. ⌜ r ≡ routeTable (only (routeKept out) (routesOf self)) ⌝ }
     {
         let entries = self.entries;
-        let n = in_use(self.count);
+        let n = at_most(self.count, PLACES);
         let mut kept = [Route {
             network: 0,
             prefix: 0,
@@ -115,7 +115,7 @@ impl RouteTable {
     pub(crate) fn len(self) -> usize
         ensures { λ r. ⌜ r ≡ length (routesOf self) ⌝ }
     {
-        in_use(self.count)
+        at_most(self.count, PLACES)
     }
 
     // The entry at a place, if that is in use.
@@ -123,7 +123,7 @@ impl RouteTable {
         ensures { λ r. ⌜ r ≡ routeOr (getElem? (routesOf self) place) ⌝ }
     {
         let entries = self.entries;
-        let n = in_use(self.count);
+        let n = at_most(self.count, PLACES);
         if n <= place {
             return RouteAt::Absent;
         }
@@ -155,7 +155,7 @@ impl RouteTable {
         ensures { λ r. ⌜ r ≡ routeOr (first isDefault (routesOf self)) ⌝ }
     {
         let entries = self.entries;
-        let n = in_use(self.count);
+        let n = at_most(self.count, PLACES);
         let mut i: usize = 0;
         while i < n {
             let entry = entries[i];

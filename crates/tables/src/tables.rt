@@ -1,6 +1,5 @@
 // The tables, empty and whole.
 ghost use mathlib.Core.Path.{_≡_};
-ghost use Prim.Native.Nat.{min};
 ghost use Rattle.tables.specs.Tables.{emptyTables, wholeTables};
 use crate::address::AddrTable;
 use crate::address::IfaceAddr;
@@ -58,14 +57,4 @@ impl Tables {
         }
         false
     }
-}
-
-// How many entries there are for a count, which may say more than there are places.
-pub(crate) fn in_use(count: usize) -> usize
-    ensures { λ r. ⌜ r ≡ min count 4 ⌝ }
-{
-    if PLACES < count {
-        return PLACES;
-    }
-    count
 }

@@ -1,11 +1,11 @@
 -- Laws of the store. Assumes nothing.
-use Prim.Native.Nat.{ℕ, zero, suc, _+_, _≤_, _<_, min}
+use Prim.Native.Nat.{ℕ, zero, suc, _+_, _≤_, _<_}
 use mathlib.Core.Bool.{true, false}
 use mathlib.Core.Path.{_≡_, refl, sym, ap, subst, _∙_}
 use mathlib.Core.List.{List, [], _∷_, _++_}
 use native.Mathlib.Omega.{arith}
 use native.Mathlib.Decide.{decLe}
-use lib.Seq.{take-all, take-append-add, length-take-le}
+use lib.Seq.{take-append-add, length-take-le}
 use native.Mathlib.Nat.{add-zero}
 use lib.ListN.{length, getD, take, drop, length-append, length-take, length-drop}
 use borrow.Author.Tests.{le-leb, lt-leb, eq-eqb, ne-eqb}
@@ -96,13 +96,6 @@ unfolding placeFrom if_then_else_
 place-cut kind at [] h e c = absurd (omega arith)
 place-cut kind at (x ∷ []) h e c = absurd (omega arith)
 place-cut kind at (x ∷ n ∷ l) h e c = simp (ne-eqb x kind e) (past kind (at + 2) n l (omega arith))
-
--- no more is in use than there is
-pub take-most : (xs : List ℕ) (n size : ℕ) → length xs ≡ size → take (min n size) xs ≡ take n xs
-take-most xs n size e = elim (decLe n size) [
-  | yes h ↦ let m : min n size ≡ n = omega arith in rw m
-  | no h ↦ take-all (min n size) xs (omega arith) ∙ sym (take-all n xs (omega arith))
-]
 
 -- wholeness by the length in use
 pub whole-over : (store : Store) → 256 < store .len → wholeStore store ≡ false

@@ -1,11 +1,12 @@
 // The store of options that a lease carries, by value.
 ghost use mathlib.Core.Path.{_≡_};
-ghost use Prim.Native.Nat.{_+_, _≤_, min};
+ghost use Prim.Native.Nat.{_+_, _≤_};
 ghost use lib.ListN.{length};
 ghost use Rattle.wire.specs.Stored.{emptyStore, pushed, storeOf, wholeStore, placeFrom, got, sameOptions};
 use crate::options::Item;
 use crate::options::OPTIONS;
 use crate::options::read_item;
+use octets::number::at_most;
 
 // Octets that a store has room for.
 const CAPACITY: usize = 256;
@@ -115,20 +116,10 @@ impl Store {
     {
         let a = self.bytes;
         let b = other.bytes;
-        let n = at_most(self.len);
-        let m = at_most(other.len);
+        let n = at_most(self.len, CAPACITY);
+        let m = at_most(other.len, CAPACITY);
         octets::run::same(&a[..n], &b[..m])
     }
-}
-
-// A used length, or the whole array's where it is over that.
-fn at_most(n: usize) -> usize
-    ensures { λ r. ⌜ r ≡ min n 256 ⌝ }
-{
-    if CAPACITY < n {
-        return CAPACITY;
-    }
-    n
 }
 
 // The first item of a kind in s, whose first octet stands at `base`: a recursion over the rest.

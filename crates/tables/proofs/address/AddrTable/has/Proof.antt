@@ -21,8 +21,8 @@ abbrev μ-loop : tie.MeasureT-loop
 size : (c : tie.Start Inv-loop μ-loop) → length (c .args .self .entries) ≡ 4
 size c = simp length-map at (c .good .0 .1 .1 .0 .1 .0 .1)
 
-in-use-requires : tie.Need-in-use-requires Inv-loop μ-loop
-in-use-requires c κs = search needs
+at-most-requires : tie.Need-at-most-requires Inv-loop μ-loop
+at-most-requires c κs = search needs
 
 loop-holds : tie.Need-loop-holds Inv-loop μ-loop
 loop-holds c = sets-out (any (isAt (c .before .before .args .address))) zeroAddr _ _ (size (c .before .before)) (omega arith)
@@ -36,7 +36,7 @@ array-copy-out-entry c = search needs
 returns : tie.Need-returns Inv-loop μ-loop
 returns c =
     let f = any (isAt (c .before .before .before .before .before .before .before .args .address)) in
-    sym (in-used f _ _ _ (c .before .before .before .before .loop .inv .long) (c .before .before .before .before .before .in-use .ensures) ∙ found f zeroAddr _ _ (c .before .before .before .before .loop .i) (c .before .before .before .before .loop .inv) (c .before .before .before .loop-test .taken) _ (λ xs. any-holds (isAt (c .before .before .before .before .before .before .before .args .address)) _ xs (eq-eqb _ _ (c .if1 .taken))))
+    sym (in-used f _ _ _ (c .before .before .before .before .loop .inv .long) (c .before .before .before .before .before .at-most .ensures) ∙ found f zeroAddr _ _ (c .before .before .before .before .loop .i) (c .before .before .before .before .loop .inv) (c .before .before .before .loop-test .taken) _ (λ xs. any-holds (isAt (c .before .before .before .before .before .before .before .args .address)) _ xs (eq-eqb _ _ (c .if1 .taken))))
 
 add-i : tie.Need-add-i Inv-loop μ-loop
 add-i c = search needs
@@ -52,7 +52,7 @@ returns-2 : tie.Need-returns-2 Inv-loop μ-loop
 unfolding any
 returns-2 c =
     let f = any (isAt (c .before .before .before .before .args .address)) in
-    sym (in-used f _ _ _ (c .before .loop .inv .long) (c .before .before .in-use .ensures) ∙ ended f zeroAddr _ _ (c .before .loop .i) (c .before .loop .inv) (omega arith))
+    sym (in-used f _ _ _ (c .before .loop .inv .long) (c .before .before .at-most .ensures) ∙ ended f zeroAddr _ _ (c .before .loop .i) (c .before .loop .inv) (omega arith))
 
 pub has-spec : {M : Type 1} → statement M
 has-spec =
@@ -60,7 +60,7 @@ has-spec =
     (tie.spec
     Inv-loop
     μ-loop
-    in-use-requires
+    at-most-requires
     loop-holds
     mul-entry
     array-copy-out-entry

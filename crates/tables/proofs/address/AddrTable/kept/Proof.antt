@@ -19,8 +19,8 @@ abbrev μ-loop : tie.MeasureT-loop
 size : (c : tie.Start Inv-loop μ-loop) → length (c .args .self .entries) ≡ 4
 size c = simp length-map at (c .good .0 .1 .1 .0 .1 .0 .1)
 
-in-use-requires : tie.Need-in-use-requires Inv-loop μ-loop
-in-use-requires c κs = search needs
+at-most-requires : tie.Need-at-most-requires Inv-loop μ-loop
+at-most-requires c κs = search needs
 
 loop-holds : tie.Need-loop-holds Inv-loop μ-loop
 loop-holds c = starts (addrKept (c .before .before .args .out)) zeroAddr zeroAddr _ _ (size (c .before .before)) (omega arith)
@@ -61,7 +61,7 @@ loop-again c =
 returns : tie.Need-returns Inv-loop μ-loop
 returns c =
     let l = c .before .loop in
-    let e = taken-all (addrKept (c .before .before .before .before .args .out)) zeroAddr zeroAddr _ _ (c .before .before .before .before .args .self .count) (l .kept) (l .k) (l .i) (l .inv) (omega arith) (c .before .before .in-use .ensures) in
+    let e = taken-all (addrKept (c .before .before .before .before .args .out)) zeroAddr zeroAddr _ _ (c .before .before .before .before .args .self .count) (l .kept) (l .k) (l .i) (l .inv) (omega arith) (c .before .before .at-most .ensures) in
     cc
 
 pub kept-spec : {M : Type 1} → statement M
@@ -70,7 +70,7 @@ kept-spec =
     (tie.spec
     Inv-loop
     μ-loop
-    in-use-requires
+    at-most-requires
     loop-holds
     mul-entry
     array-copy-out-entry

@@ -10,12 +10,12 @@ use Rattle.tables.proofs.route.RouteTable.at.Tie as tie
 size : (c : tie.Start) → length (c .args .self .entries) ≡ 4
 size c = simp length-map at (c .good .0 .1 .1 .0 .1 .0 .1)
 
-in-use-requires : tie.Need-in-use-requires
-in-use-requires c κs = search needs
+at-most-requires : tie.Need-at-most-requires
+at-most-requires c κs = search needs
 
 returns : tie.Need-returns
 returns c =
-    sym (ap routeOr (past-use (c .before .in-use .result) (c .before .before .before .args .self .count) (c .before .before .before .args .place) (c .before .before .before .args .self .entries) (size (c .before .before .before)) (c .before .in-use .ensures) (c .if1 .taken)))
+    sym (ap routeOr (past-use (c .before .at-most .result) (c .before .before .before .args .self .count) (c .before .before .before .args .place) (c .before .before .before .args .self .entries) (size (c .before .before .before)) (c .before .at-most .ensures) (c .if1 .taken)))
 
 mul-t6 : tie.Need-mul-t6
 mul-t6 c = search needs
@@ -25,7 +25,7 @@ array-copy-out-t9 c = search needs
 
 returns-2 : tie.Need-returns-2
 returns-2 c =
-    sym (ap routeOr (within-use (c .before .before .in-use .result) (c .before .before .before .before .args .self .count) (c .before .before .before .before .args .place) (c .before .before .before .before .args .self .entries) (size (c .before .before .before .before)) (c .before .before .in-use .ensures) zeroRoute (c .before .if1 .left)))
+    sym (ap routeOr (within-use (c .before .before .at-most .result) (c .before .before .before .before .args .self .count) (c .before .before .before .before .args .place) (c .before .before .before .before .args .self .entries) (size (c .before .before .before .before)) (c .before .before .at-most .ensures) zeroRoute (c .before .if1 .left)))
 
 pub at-spec : {M : Type 1} → statement M
-at-spec = tie.close (tie.spec in-use-requires returns mul-t6 array-copy-out-t9 returns-2)
+at-spec = tie.close (tie.spec at-most-requires returns mul-t6 array-copy-out-t9 returns-2)

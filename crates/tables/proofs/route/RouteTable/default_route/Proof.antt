@@ -26,8 +26,8 @@ abbrev μ-loop : tie.MeasureT-loop
 size : (c : tie.Start Inv-loop μ-loop) → length (c .args .self .entries) ≡ 4
 size c = simp length-map at (c .good .0 .1 .1 .0 .1 .0 .1)
 
-in-use-requires : tie.Need-in-use-requires Inv-loop μ-loop
-in-use-requires c κs = search needs
+at-most-requires : tie.Need-at-most-requires Inv-loop μ-loop
+at-most-requires c κs = search needs
 
 loop-holds : tie.Need-loop-holds Inv-loop μ-loop
 loop-holds c = sets-out firstDefault zeroRoute _ _ (size (c .before .before)) (omega arith)
@@ -43,7 +43,7 @@ is-default-requires c κs = search needs
 
 returns : tie.Need-returns Inv-loop μ-loop
 returns c =
-    sym (in-used firstDefault _ _ _ (c .before .before .before .before .loop .inv .long) (c .before .before .before .before .before .in-use .ensures) ∙ found firstDefault zeroRoute _ _ (c .before .before .before .before .loop .i) (c .before .before .before .before .loop .inv) (c .before .before .before .loop-test .taken) _ (λ xs. ap routeOr (first-is isDefault _ xs (sym (c .before .is-default .ensures) ∙ c .if1 .taken))))
+    sym (in-used firstDefault _ _ _ (c .before .before .before .before .loop .inv .long) (c .before .before .before .before .before .at-most .ensures) ∙ found firstDefault zeroRoute _ _ (c .before .before .before .before .loop .i) (c .before .before .before .before .loop .inv) (c .before .before .before .loop-test .taken) _ (λ xs. ap routeOr (first-is isDefault _ xs (sym (c .before .is-default .ensures) ∙ c .if1 .taken))))
 
 add-i : tie.Need-add-i Inv-loop μ-loop
 add-i c = search needs
@@ -58,7 +58,7 @@ loop-again c =
 returns-2 : tie.Need-returns-2 Inv-loop μ-loop
 unfolding first
 returns-2 c =
-    sym (in-used firstDefault _ _ _ (c .before .loop .inv .long) (c .before .before .in-use .ensures) ∙ ended firstDefault zeroRoute _ _ (c .before .loop .i) (c .before .loop .inv) (omega arith))
+    sym (in-used firstDefault _ _ _ (c .before .loop .inv .long) (c .before .before .at-most .ensures) ∙ ended firstDefault zeroRoute _ _ (c .before .loop .i) (c .before .loop .inv) (omega arith))
 
 pub default-route-spec : {M : Type 1} → statement M
 default-route-spec =
@@ -66,7 +66,7 @@ default-route-spec =
     (tie.spec
     Inv-loop
     μ-loop
-    in-use-requires
+    at-most-requires
     loop-holds
     mul-entry
     array-copy-out-entry

@@ -1,4 +1,4 @@
-use Rattle.wire.proofs.Stores.{take-most}
+use Rattle.octets.proofs.Runs.{take-most}
 use lib.Seq.{length-take-le}
 use lib.ListN.{length}
 use native.Mathlib.Omega.{arith}
