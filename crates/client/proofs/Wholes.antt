@@ -1,6 +1,6 @@
 -- A whole client with whole tables stays whole, whatever call is made on it. Assumes nothing.
 use Prim.Native.Nat.{ℕ, _≤_}
-use mathlib.Core.Path.{_≡_, refl, sym}
+use mathlib.Core.Path.{_≡_, refl, sym, ap, _∙_}
 use mathlib.Core.Bool.{Bool, true, false, not}
 use mathlib.Core.List.{List, []}
 use mathlib.Core.Option.{Option, none, some}
@@ -18,7 +18,7 @@ use Rattle.wire.specs.Readings.{headerCheck, addressedTo, transactionId, messag
 use Rattle.wire.specs.declared.reply.Checked.{Checked}
 use Rattle.wire.specs.declared.reply.Checked.the-variants as check
 use Rattle.wire.proofs.Stores.{store-sound}
-use Rattle.machine.specs.States.{awaited}
+use Rattle.machine.specs.States.{hasLease, awaited}
 use Rattle.machine.specs.declared.state.ClientState.{ClientState}
 use Rattle.machine.specs.declared.state.ClientState.the-variants.{Init, Discovering, Requesting, Renewing}
 use Rattle.machine.specs.declared.state.DhcpServerInfo.{DhcpServerInfo}
@@ -31,9 +31,9 @@ use Rattle.tables.specs.declared.tables.Tables.{Tables}
 use Rattle.tables.proofs.Origins.{whole-applied}
 use Rattle.tables.proofs.Lists.{all-takes}
 use Rattle.client.specs.Settings.{refusalOf}
-use Rattle.client.specs.Leases.{dnsCode, leaseOf, wholeLease, installed, nothing}
+use Rattle.client.specs.Leases.{noLease, dnsCode, leaseOf, wholeLease, installed, nothing}
 use Rattle.client.specs.Clients.{inState, fresh, created, leaseFits, wholeOr, wholeClient}
-use Rattle.client.specs.Resets.{wholeAll, restarted, dropped, clearedIn, cleared, wasReset}
+use Rattle.client.specs.Resets.{wholeAll, restarted, dropped, cleared, wasReset}
 use Rattle.client.specs.Judged.{needing, judgedOffer, judgedAddress, judgedAck, judgedAs, judgedKind, isId, judgedSender, afterHeader, judged, recipientOf}
 use Rattle.client.specs.Taken.{serverOf, holds, heldBy, boundBy, ackLease, ackedAs, acked, entered, offered, replied, processed}
 use Rattle.client.specs.declared.settings.Settings.{Settings}
@@ -99,7 +99,7 @@ few-addresses (some body) = rw (length-take 3 (unicastOnes (groupsOf body))) (om
 lease-whole : (server : DhcpServerInfo) (address prefix : ℕ) (reply : List ℕ) → prefix ≤ 32 → wholeLease (leaseOf server address prefix reply) ≡ true
 unfolding wholeLease
 lease-whole server address prefix reply h =
-    sym (if-false _ (le-ltb 32 prefix h) (if-false _ (le-ltb 3 _ (few-addresses (optionData dnsCode reply))) (sym (store-sound reply .whole))))
+    sym (if-false _ (ap not (le-leb prefix 32 h)) (if-false _ (le-ltb 3 _ (few-addresses (optionData dnsCode reply))) (sym (store-sound reply .whole))))
 
 -- the parts of a whole client
 settings-whole : (c : Client) → wholeClient c ≡ true → refusalOf (c .settings) ≡ None
@@ -118,6 +118,15 @@ lease-fits c = step (refusalOf (c .settings))
     step None h = h
     step (Some n) h = cc
 
+-- a lease that is not read fits, and one that is read fits if it is whole
+unread-fits : (state : ClientState) (lease : DhcpLease) → hasLease state ≡ false → leaseFits state lease ≡ true
+unfolding leaseFits
+unread-fits state lease e = sym (if-false _ e refl)
+
+read-fits : (state : ClientState) (lease : DhcpLease) → hasLease state ≡ true → wholeLease lease ≡ true → leaseFits state lease ≡ true
+unfolding leaseFits
+read-fits state lease e h = sym (if-true _ e (sym h))
+
 parts-whole : (c : Client) → refusalOf (c .settings) ≡ None → leaseFits (c .state) (c .lease) ≡ true → wholeClient c ≡ true
 unfolding wholeClient
 parts-whole c e h = rw e h
@@ -133,7 +142,7 @@ all-parts c t h = both-true (wholeClient c) h
 -- Creation returns a whole client.
 pub created-whole : (s : Settings) (ignoring : Bool) → refusalOf s ≡ None → wholeClient (created s ignoring .client) ≡ true
 unfolding created
-created-whole s ignoring e = rw e (parts-whole (fresh s ignoring) e refl)
+created-whole s ignoring e = rw e (parts-whole (fresh s ignoring) e (unread-fits Init noLease refl))
 
 abbrev Whole : Settled → Type 0
 Whole s = wholeAll (s .client) (s .tables) ≡ true
@@ -147,25 +156,17 @@ module _ (c : Client) (t : Tables) (h : wholeAll c t ≡ true) where
 
   cleared-whole : Whole (cleared c t)
   unfolding cleared all
-  cleared-whole = step (c .state)
+  cleared-whole = if-cases Whole (hasLease (c .state)) (λ e. gone) (λ e. over)
     where
       over : Whole (restarted c t)
-      over = all-whole (restarted c t .client) t (parts-whole (restarted c t .client) sound refl) tables-whole
+      over = all-whole (restarted c t .client) t (parts-whole (restarted c t .client) sound (unread-fits Init (c .lease) refl)) tables-whole
 
       gone : Whole (dropped c t)
-      gone = all-whole (dropped c t .client) (dropped c t .tables) (parts-whole (dropped c t .client) sound refl) (whole-applied t nothing (installed (c .lease)) refl tables-whole)
+      gone = all-whole (dropped c t .client) (dropped c t .tables) (parts-whole (dropped c t .client) sound (unread-fits Init noLease refl)) (whole-applied t nothing (installed (c .lease)) refl tables-whole)
 
-      step : (s : ClientState) → Whole (clearedIn s c t)
-      step Init = over
-      step (Discovering s) = over
-      step (Requesting s) = over
-      step (Renewing s) = gone
-
-  held-whole : (s : ClientState) (held lease : DhcpLease) → holds s held lease ≡ true → leaseFits s held ≡ true → wholeLease held ≡ true
-  held-whole Init held lease e f = cc
-  held-whole (Discovering s) held lease e f = cc
-  held-whole (Requesting s) held lease e f = cc
-  held-whole (Renewing s) held lease e f = f
+  held-whole : (state : ClientState) (held lease : DhcpLease) → holds state held lease ≡ true → leaseFits state held ≡ true → wholeLease held ≡ true
+  unfolding holds leaseFits
+  held-whole state held lease e f = if-true true (both-true (hasLease state) e .0) refl ∙ f
 
   acked-whole : (reply : List ℕ) (moment : Instant) (ack : Acked) → ack .prefix ≤ 32 → Whole (acked c t reply moment ack)
   unfolding acked ackedAs boundBy all
@@ -181,16 +182,16 @@ module _ (c : Client) (t : Tables) (h : wholeAll c t ≡ true) where
       fits = lease-whole (serverOf (c .state) (c .lease) (ack .server)) (ack .address) (ack .prefix) reply p
 
       same : holds (c .state) (c .lease) lease ≡ true → Whole (record { client = inState c state; tables = t; purge = false })
-      same e = all-whole (inState c state) t (parts-whole (inState c state) sound (held-whole (c .state) (c .lease) lease e (lease-fits c (all-parts c t h .0)))) tables-whole
+      same e = all-whole (inState c state) t (parts-whole (inState c state) sound (read-fits state (c .lease) refl (held-whole (c .state) (c .lease) lease e (lease-fits c (all-parts c t h .0))))) tables-whole
 
       other : holds (c .state) (c .lease) lease ≡ false → Whole (entered c t state lease)
       other e =
-          all-whole (entered c t state lease .client) (entered c t state lease .tables) (parts-whole (entered c t state lease .client) sound fits)
+          all-whole (entered c t state lease .client) (entered c t state lease .tables) (parts-whole (entered c t state lease .client) sound (read-fits state lease refl fits))
           (whole-applied t (installed lease) (heldBy (c .state) (c .lease)) (all-takes addrFits (leasedAddr (ack .address) (ack .prefix)) [] (le-leb _ _ p)) tables-whole)
 
   reply-whole : (reply : List ℕ) (moment : Instant) (v : Verdict) → Fits v → wholeAll (replied c t reply moment v .client) (replied c t reply moment v .tables) ≡ true
   unfolding replied
-  reply-whole reply moment (Offer o) f = all-whole (offered c t moment o .client) t (parts-whole (offered c t moment o .client) sound refl) tables-whole
+  reply-whole reply moment (Offer o) f = all-whole (offered c t moment o .client) t (parts-whole (offered c t moment o .client) sound (unread-fits (offered c t moment o .client .state) (c .lease) refl)) tables-whole
   reply-whole reply moment (Ack a) f = acked-whole reply moment a f
   reply-whole reply moment Nak f = cleared-whole
   reply-whole reply moment (PassedOver n) f = h

@@ -1,9 +1,11 @@
 -- The client, its creation, and number 9 of a client.
 use mathlib.Core.Bool.{Bool, true, false}
+use Rattle.clock.specs.Choice.{if_then_else_}
 use Rattle.octets.specs.declared.number.MaybeNumber.{MaybeNumber}
 use Rattle.octets.specs.declared.number.MaybeNumber.the-variants.{None, Some}
+use Rattle.machine.specs.States.{hasLease}
 use Rattle.machine.specs.declared.state.ClientState.{ClientState}
-use Rattle.machine.specs.declared.state.ClientState.the-variants.{Init, Discovering, Requesting, Renewing}
+use Rattle.machine.specs.declared.state.ClientState.the-variants.{Init}
 use Rattle.tables.specs.declared.manual.Outcome.the-variants.{Done, Refused}
 use Rattle.client.specs.Settings.{noSettings, refusalOf}
 use Rattle.client.specs.Leases.{noLease, wholeLease}
@@ -54,11 +56,8 @@ unfoldable pub created : Settings → Bool → Created
 created settings ignoring = createdOr (refusalOf settings) settings ignoring
 
 -- The lease is read in Renewing alone.
-abbrev pub leaseFits : ClientState → DhcpLease → Bool
-leaseFits Init lease = true
-leaseFits (Discovering s) lease = true
-leaseFits (Requesting s) lease = true
-leaseFits (Renewing s) lease = wholeLease lease
+unfoldable pub leaseFits : ClientState → DhcpLease → Bool
+leaseFits state lease = if hasLease state then wholeLease lease else true
 
 -- 9, of a client: a setting that 1 to 7 refuse, or a lease that is read and is not whole.
 abbrev pub wholeOr : MaybeNumber → Bool → Bool

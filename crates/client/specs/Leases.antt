@@ -1,6 +1,6 @@
 -- The lease that a client holds.
 use Prim.Native.Nat.{ℕ}
-use mathlib.Core.Bool.{Bool, false, _&&_}
+use mathlib.Core.Bool.{Bool, false, not, _&&_}
 use mathlib.Core.List.{List}
 use lib.ListN.{take, replicate}
 use lib.Dec.{ltb, eqb}
@@ -11,6 +11,7 @@ use Rattle.wire.specs.Options.{optionData}
 use Rattle.wire.specs.Readings.{router, addressesOf}
 use Rattle.wire.specs.Stored.{emptyStore, storeOf, wholeStore, sameOptions}
 use Rattle.wire.specs.declared.reply.Addresses.{Addresses}
+use Rattle.tables.specs.Tables.{prefixFits}
 use Rattle.tables.specs.Applied.{sameRouter}
 use Rattle.tables.specs.declared.apply.Installed.{Installed}
 use Rattle.tables.specs.declared.apply.MaybeCidr.the-variants.{Absent, Cidr}
@@ -47,7 +48,7 @@ leaseOf server address prefix reply = record {
 -- Whether a lease is whole: no prefix over 32, no count over 3, stored options that are whole items.
 unfoldable pub wholeLease : DhcpLease → Bool
 wholeLease l =
-    if ltb 32 (l .prefix) then false
+    if not (prefixFits (l .prefix)) then false
     else if ltb 3 (l .dns .count) then false
     else wholeStore (l .options)
 

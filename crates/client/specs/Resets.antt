@@ -1,8 +1,8 @@
 -- Resets (document 01): the lease is dropped, if one is held, and the client starts over.
 use mathlib.Core.Bool.{Bool, false, not}
 use Rattle.clock.specs.Choice.{if_then_else_}
-use Rattle.machine.specs.declared.state.ClientState.{ClientState}
-use Rattle.machine.specs.declared.state.ClientState.the-variants.{Init, Discovering, Requesting, Renewing}
+use Rattle.machine.specs.States.{hasLease}
+use Rattle.machine.specs.declared.state.ClientState.the-variants.{Init}
 use Rattle.tables.specs.Tables.{wholeTables}
 use Rattle.tables.specs.Applied.{applied}
 use Rattle.tables.specs.declared.tables.Tables.{Tables}
@@ -29,14 +29,8 @@ dropped c t = record {
   purge = applied t nothing (installed (c .lease)) .purge;
 }
 
-abbrev pub clearedIn : ClientState → Client → Tables → Settled
-clearedIn Init c t = restarted c t
-clearedIn (Discovering s) c t = restarted c t
-clearedIn (Requesting s) c t = restarted c t
-clearedIn (Renewing s) c t = dropped c t
-
 unfoldable pub cleared : Client → Tables → Settled
-cleared c t = clearedIn (c .state) c t
+cleared c t = if hasLease (c .state) then dropped c t else restarted c t
 
 -- The call: 9, and then client and tables are as they came.
 abbrev pub resetDone : Settled → WasReset

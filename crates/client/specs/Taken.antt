@@ -9,7 +9,7 @@ use Rattle.clock.specs.declared.duration.MaybeDuration.{MaybeDuration}
 use Rattle.wire.specs.Options.{optionData}
 use Rattle.wire.specs.Readings.{secondsOf}
 use Rattle.machine.specs.Times.{given, leaseTime, rowOf, timesOf}
-use Rattle.machine.specs.States.{requesting, renewing}
+use Rattle.machine.specs.States.{hasLease, requesting, renewing}
 use Rattle.machine.specs.declared.state.ClientState.{ClientState}
 use Rattle.machine.specs.declared.state.ClientState.the-variants.{Init, Discovering, Requesting, Renewing}
 use Rattle.machine.specs.declared.state.DhcpServerInfo.{DhcpServerInfo}
@@ -67,17 +67,11 @@ serverOf (Requesting s) lease sender = s .server
 serverOf (Renewing s) lease sender = lease .server
 
 -- Whether a lease is the one that is held, and what the one that is held has put into the tables.
-abbrev pub holds : ClientState → DhcpLease → DhcpLease → Bool
-holds Init held lease = false
-holds (Discovering s) held lease = false
-holds (Requesting s) held lease = false
-holds (Renewing s) held lease = sameLease lease held
+unfoldable pub holds : ClientState → DhcpLease → DhcpLease → Bool
+holds state held lease = if hasLease state then sameLease lease held else false
 
-abbrev pub heldBy : ClientState → DhcpLease → Installed
-heldBy Init held = nothing
-heldBy (Discovering s) held = nothing
-heldBy (Requesting s) held = nothing
-heldBy (Renewing s) held = installed held
+unfoldable pub heldBy : ClientState → DhcpLease → Installed
+heldBy state held = if hasLease state then installed held else nothing
 
 -- Another lease, in the place of the one that is held, if one is.
 abbrev pub entered : Client → Tables → ClientState → DhcpLease → Settled

@@ -89,7 +89,7 @@ impl Client {
         }
     }
 
-    // Whose lease an ACK brings: the server's that made the offer, or that leased the address; never the ACK's sender.
+    // Whose lease an ACK brings: the server's that made the offer, or that leased the address. Other states await no ACK.
     fn server(self, sender: DhcpServerInfo) -> DhcpServerInfo
         ensures { λ r. ⌜ r ≡ serverOf (self .state) (self .lease) sender ⌝ }
     {
@@ -109,12 +109,10 @@ impl Client {
     {
         let held = self.lease;
         let state = self.state;
-        match state {
-            ClientState::Init => false,
-            ClientState::Discovering(_) => false,
-            ClientState::Requesting(_) => false,
-            ClientState::Renewing(_) => lease.equals(held),
+        if state.has_lease() {
+            return lease.equals(held);
         }
+        false
     }
 
     // What the lease that is held has put into the tables.
@@ -123,12 +121,10 @@ impl Client {
     {
         let lease = self.lease;
         let state = self.state;
-        match state {
-            ClientState::Init => nothing(),
-            ClientState::Discovering(_) => nothing(),
-            ClientState::Requesting(_) => nothing(),
-            ClientState::Renewing(_) => lease.installed(),
+        if state.has_lease() {
+            return lease.installed();
         }
+        nothing()
     }
 
     // Renewing, by the times of an ACK.

@@ -86,12 +86,10 @@ impl Client {
     {
         let lease = self.lease;
         let state = self.state;
-        match state {
-            ClientState::Init => true,
-            ClientState::Discovering(_) => true,
-            ClientState::Requesting(_) => true,
-            ClientState::Renewing(_) => lease.is_whole(),
+        if state.has_lease() {
+            return lease.is_whole();
         }
+        true
     }
 
     // The client in another state, all else as it is.

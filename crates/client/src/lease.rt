@@ -1,9 +1,9 @@
 // The lease that a client holds, all of it by value.
 ghost use mathlib.Core.Path.{_≡_};
-ghost use Prim.Native.Nat.{min};
 ghost use Rattle.client.specs.Leases.{noLease, wholeLease, sameTerms, sameAddresses, sameLease, installed, nothing, leaseOf};
 use machine::DhcpServerInfo;
 use octets::MaybeNumber;
+use octets::number::at_most;
 use tables::Installed;
 use tables::MaybeCidr;
 use tables::PREFIX_LIMIT;
@@ -140,8 +140,8 @@ fn same_addresses(a: Addresses, b: Addresses) -> bool
 {
     let x = a.list;
     let y = b.list;
-    let n = at_most(a.count);
-    if n != at_most(b.count) {
+    let n = at_most(a.count, DNS_LIMIT);
+    if n != at_most(b.count, DNS_LIMIT) {
         return false;
     }
     let mut i = 0;
@@ -152,14 +152,4 @@ fn same_addresses(a: Addresses, b: Addresses) -> bool
         i += 1;
     }
     true
-}
-
-// A count, or the number of places where it is over that.
-fn at_most(n: usize) -> usize
-    ensures { λ r. ⌜ r ≡ min n 3 ⌝ }
-{
-    if DNS_LIMIT < n {
-        return DNS_LIMIT;
-    }
-    n
 }

@@ -29,15 +29,13 @@ impl Client {
         if !self.is_whole() {
             return unheld(Has::Refused(9));
         }
-        match state {
-            ClientState::Init => unheld(Has::No),
-            ClientState::Discovering(_) => unheld(Has::No),
-            ClientState::Requesting(_) => unheld(Has::No),
-            ClientState::Renewing(_) => Leased {
+        if state.has_lease() {
+            return Leased {
                 lease,
                 held: Has::Yes,
-            },
+            };
         }
+        unheld(Has::No)
     }
 
     // Where the data of a stored option of the lease lies in its store, and how long it is.
@@ -49,12 +47,10 @@ impl Client {
         if !self.is_whole() {
             return Got::Refused(9);
         }
-        match state {
-            ClientState::Init => Got::Absent,
-            ClientState::Discovering(_) => Got::Absent,
-            ClientState::Requesting(_) => Got::Absent,
-            ClientState::Renewing(_) => options.get(kind),
+        if state.has_lease() {
+            return options.get(kind);
         }
+        Got::Absent
     }
 
     // The state, with its deadlines.

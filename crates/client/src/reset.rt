@@ -66,12 +66,10 @@ impl Client {
         ensures { λ r. ⌜ r ≡ cleared self tables ⌝ }
     {
         let state = self.state;
-        match state {
-            ClientState::Init => self.restarted(tables),
-            ClientState::Discovering(_) => self.restarted(tables),
-            ClientState::Requesting(_) => self.restarted(tables),
-            ClientState::Renewing(_) => self.dropped(tables),
+        if state.has_lease() {
+            return self.dropped(tables);
         }
+        self.restarted(tables)
     }
 
     fn restarted(self, tables: Tables) -> Settled

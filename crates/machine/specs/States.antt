@@ -1,6 +1,6 @@
 -- Which state awaits which reply, and the states that a reply that is taken leads to (document 01, "Reading a reply").
 use Prim.Native.Nat.{ℕ}
-use mathlib.Core.Bool.{Bool, false}
+use mathlib.Core.Bool.{Bool, true, false}
 use lib.Dec.{eqb}
 use Rattle.clock.specs.Choice.{if_then_else_}
 use Rattle.clock.specs.Moments.{plus, moment}
@@ -12,6 +12,13 @@ use Rattle.machine.specs.declared.state.DhcpServerInfo.{DhcpServerInfo}
 use Rattle.machine.specs.declared.state.Awaited.{Awaited}
 use Rattle.machine.specs.declared.state.Awaited.the-variants.{Offer, Ack, Nak, Nothing}
 use Rattle.machine.specs.declared.times.Times.{Times}
+
+-- Whether a lease is held: in Renewing alone.
+abbrev pub hasLease : ClientState → Bool
+hasLease Init = false
+hasLease (Discovering s) = false
+hasLease (Requesting s) = false
+hasLease (Renewing s) = true
 
 -- Values of option 53, the message type (RFC 2132, section 9.6).
 abbrev pub offer : ℕ

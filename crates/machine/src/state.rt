@@ -1,6 +1,6 @@
 // The client's states, and what they make of a reply's message type.
 ghost use mathlib.Core.Path.{_≡_};
-ghost use Rattle.machine.specs.States.{awaited, offerAlone, ackOrNak, requesting, renewing};
+ghost use Rattle.machine.specs.States.{hasLease, awaited, offerAlone, ackOrNak, requesting, renewing};
 use crate::times::Times;
 use clock::Duration;
 use clock::Instant;
@@ -70,6 +70,18 @@ const ACK: u32 = 5;
 const NAK: u32 = 6;
 
 impl ClientState {
+    // Whether a lease is held.
+    pub fn has_lease(self) -> bool
+        ensures { λ r. ⌜ r ≡ hasLease self ⌝ }
+    {
+        match self {
+            ClientState::Init => false,
+            ClientState::Discovering(s) => false,
+            ClientState::Requesting(s) => false,
+            ClientState::Renewing(s) => true,
+        }
+    }
+
     // What a reply of a message type is to this state, where NAKs are ignored or not.
     pub fn awaited(self, kind: u32, ignoring: bool) -> Awaited
         ensures { λ r. ⌜ r ≡ awaited self kind ignoring ⌝ }

@@ -1,59 +1,32 @@
-use Rattle.machine.specs.declared.state.ClientState.{ClientState}
-use mathlib.Core.Path.{sym, ap, _∙_}
+use mathlib.Core.Path.{refl, sym, _∙_}
+use Rattle.clock.proofs.Choices.{if-true, if-false}
 use Rattle.client.specs.Taken.{heldBy}
 use borrow.Author.Needs.{needs}
 use Rattle.client.proofs.client.Client.held.Statement.{statement}
 use Rattle.client.proofs.client.Client.held.Tie as tie
+use Rattle.client.proofs.client.Client.held.Reads as reads
+use Rattle.client.proofs.client.Client.held.Lts as lts
+use Rattle.client.proofs.lease.DhcpLease.installed.Reads as installed-reads
+use Rattle.client.proofs.lease.nothing.Reads as nothing-reads
+use Rattle.machine.proofs.state.ClientState.has_lease.Reads as has-lease-reads
 
-enum-told : tie.Need-enum-told
-enum-told c = search needs
-
-nothing-requires : tie.Need-nothing-requires
-nothing-requires c κs = search needs
-
-enum-told-2 : tie.Need-enum-told-2
-enum-told-2 c = search needs
-
-nothing-requires-2 : tie.Need-nothing-requires-2
-nothing-requires-2 c κs = search needs
-
-enum-told-3 : tie.Need-enum-told-3
-enum-told-3 c = search needs
-
-nothing-requires-3 : tie.Need-nothing-requires-3
-nothing-requires-3 c κs = search needs
-
-enum-told-4 : tie.Need-enum-told-4
-enum-told-4 c = search needs
+has-lease-requires : tie.Need-has-lease-requires
+has-lease-requires c κs = search needs
 
 installed-requires : tie.Need-installed-requires
 installed-requires c κs = search needs
 
 returns : tie.Need-returns
-returns c = (c .nothing .ensures) ∙ ap (λ (s : ClientState). heldBy s (c .before .before .before .before .args .self .lease)) (sym (c .before .enum-told .given .1))
+unfolding heldBy
+returns c = if-true _ (sym (c .before .before .has-lease .ensures) ∙ (c .before .if1 .taken)) (c .installed .ensures)
+
+nothing-requires : tie.Need-nothing-requires
+nothing-requires c κs = search needs
 
 returns-2 : tie.Need-returns-2
-returns-2 c = (c .nothing2 .ensures) ∙ ap (λ (s : ClientState). heldBy s (c .before .before .before .before .args .self .lease)) (sym (c .before .enum-told2 .given .1))
-
-returns-3 : tie.Need-returns-3
-returns-3 c = (c .nothing3 .ensures) ∙ ap (λ (s : ClientState). heldBy s (c .before .before .before .before .args .self .lease)) (sym (c .before .enum-told3 .given .1))
-
-returns-4 : tie.Need-returns-4
-returns-4 c = (c .installed .ensures) ∙ ap (λ (s : ClientState). heldBy s (c .before .before .before .before .args .self .lease)) (sym (c .before .enum-told4 .given .1))
+unfolding heldBy
+returns-2 c = if-false _ (sym (c .before .before .has-lease .ensures) ∙ (c .before .if1 .left)) (c .nothing .ensures)
 
 pub held-spec : {M : Type 1} → statement M
 held-spec =
-    tie.close
-    (tie.spec
-    enum-told
-    nothing-requires
-    enum-told-2
-    nothing-requires-2
-    enum-told-3
-    nothing-requires-3
-    enum-told-4
-    installed-requires
-    returns
-    returns-2
-    returns-3
-    returns-4)
+    tie.close (tie.spec has-lease-requires installed-requires returns nothing-requires returns-2)

@@ -1,47 +1,27 @@
-use Rattle.machine.specs.declared.state.ClientState.{ClientState}
-use mathlib.Core.Path.{sym, ap, _∙_}
+use mathlib.Core.Path.{refl, sym, _∙_}
+use Rattle.clock.proofs.Choices.{if-true, if-false}
 use Rattle.client.specs.Taken.{holds}
 use borrow.Author.Needs.{needs}
 use Rattle.client.proofs.client.Client.holds.Statement.{statement}
 use Rattle.client.proofs.client.Client.holds.Tie as tie
+use Rattle.client.proofs.client.Client.holds.Reads as reads
+use Rattle.client.proofs.client.Client.holds.Lts as lts
+use Rattle.client.proofs.lease.DhcpLease.equals.Reads as equals-reads
+use Rattle.machine.proofs.state.ClientState.has_lease.Reads as has-lease-reads
 
-enum-told : tie.Need-enum-told
-enum-told c = search needs
-
-enum-told-2 : tie.Need-enum-told-2
-enum-told-2 c = search needs
-
-enum-told-3 : tie.Need-enum-told-3
-enum-told-3 c = search needs
-
-enum-told-4 : tie.Need-enum-told-4
-enum-told-4 c = search needs
+has-lease-requires : tie.Need-has-lease-requires
+has-lease-requires c κs = search needs
 
 equals-requires : tie.Need-equals-requires
 equals-requires c κs = search needs
 
 returns : tie.Need-returns
-returns c = search needs
+unfolding holds
+returns c = if-true _ (sym (c .before .before .has-lease .ensures) ∙ (c .before .if1 .taken)) (c .equals .ensures)
 
 returns-2 : tie.Need-returns-2
-returns-2 c = search needs
-
-returns-3 : tie.Need-returns-3
-returns-3 c = search needs
-
-returns-4 : tie.Need-returns-4
-returns-4 c = (c .equals .ensures) ∙ ap (λ (s : ClientState). holds s (c .before .before .before .before .args .self .lease) (c .before .before .before .before .args .lease)) (sym (c .before .enum-told4 .given .1))
+unfolding holds
+returns-2 c = if-false _ (sym (c .before .has-lease .ensures) ∙ (c .if1 .left)) refl
 
 pub holds-spec : {M : Type 1} → statement M
-holds-spec =
-    tie.close
-    (tie.spec
-    enum-told
-    enum-told-2
-    enum-told-3
-    enum-told-4
-    equals-requires
-    returns
-    returns-2
-    returns-3
-    returns-4)
+holds-spec = tie.close (tie.spec has-lease-requires equals-requires returns returns-2)

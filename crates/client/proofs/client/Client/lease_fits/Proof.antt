@@ -1,47 +1,27 @@
-use Rattle.machine.specs.declared.state.ClientState.{ClientState}
-use mathlib.Core.Path.{sym, ap, _∙_}
+use mathlib.Core.Path.{refl, sym, _∙_}
+use Rattle.clock.proofs.Choices.{if-true, if-false}
 use Rattle.client.specs.Clients.{leaseFits}
 use borrow.Author.Needs.{needs}
 use Rattle.client.proofs.client.Client.lease_fits.Statement.{statement}
 use Rattle.client.proofs.client.Client.lease_fits.Tie as tie
+use Rattle.client.proofs.client.Client.lease_fits.Reads as reads
+use Rattle.client.proofs.client.Client.lease_fits.Lts as lts
+use Rattle.client.proofs.lease.DhcpLease.is_whole.Reads as is-whole-reads
+use Rattle.machine.proofs.state.ClientState.has_lease.Reads as has-lease-reads
 
-enum-told : tie.Need-enum-told
-enum-told c = search needs
-
-enum-told-2 : tie.Need-enum-told-2
-enum-told-2 c = search needs
-
-enum-told-3 : tie.Need-enum-told-3
-enum-told-3 c = search needs
-
-enum-told-4 : tie.Need-enum-told-4
-enum-told-4 c = search needs
+has-lease-requires : tie.Need-has-lease-requires
+has-lease-requires c κs = search needs
 
 is-whole-requires : tie.Need-is-whole-requires
 is-whole-requires c κs = search needs
 
 returns : tie.Need-returns
-returns c = ap (λ (s : ClientState). leaseFits s (c .before .before .before .args .self .lease)) (sym (c .enum-told .given .1))
+unfolding leaseFits
+returns c = if-true _ (sym (c .before .before .has-lease .ensures) ∙ (c .before .if1 .taken)) (c .is-whole .ensures)
 
 returns-2 : tie.Need-returns-2
-returns-2 c = ap (λ (s : ClientState). leaseFits s (c .before .before .before .args .self .lease)) (sym (c .enum-told2 .given .1))
-
-returns-3 : tie.Need-returns-3
-returns-3 c = ap (λ (s : ClientState). leaseFits s (c .before .before .before .args .self .lease)) (sym (c .enum-told3 .given .1))
-
-returns-4 : tie.Need-returns-4
-returns-4 c = (c .is-whole .ensures) ∙ ap (λ (s : ClientState). leaseFits s (c .before .before .before .before .args .self .lease)) (sym (c .before .enum-told4 .given .1))
+unfolding leaseFits
+returns-2 c = if-false _ (sym (c .before .has-lease .ensures) ∙ (c .if1 .left)) refl
 
 pub lease-fits-spec : {M : Type 1} → statement M
-lease-fits-spec =
-    tie.close
-    (tie.spec
-    enum-told
-    enum-told-2
-    enum-told-3
-    enum-told-4
-    is-whole-requires
-    returns
-    returns-2
-    returns-3
-    returns-4)
+lease-fits-spec = tie.close (tie.spec has-lease-requires is-whole-requires returns returns-2)
