@@ -1,2 +1,4 @@
 pub mod Rows
 pub mod Order
+pub mod Timers
+pub mod Decisions

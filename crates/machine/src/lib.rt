@@ -3,9 +3,13 @@
 //
 // No function of this crate refuses anything: every value of its types has an answer, also one that no reply gives.
 
+pub mod poll;
 pub mod state;
 pub mod times;
 
+pub use poll::Decision;
+pub use poll::Due;
+pub use poll::Sending;
 pub use state::Awaited;
 pub use state::ClientState;
 pub use state::DhcpServerInfo;
