@@ -4,4 +4,5 @@ pub mod Clients
 pub mod Resets
 pub mod Judged
 pub mod Taken
+pub mod Polls
 pub mod Lookups

@@ -1,0 +1,6 @@
+// A post: the client with its tables, its generator and the moment. Beside it stand lists of calls on a post, document 01's
+// "The run in demand 3", and the theorem about every such list: specs/Demand3.antt states it, proofs/Whole.antt proves it.
+
+pub mod post;
+
+pub use post::Post;
