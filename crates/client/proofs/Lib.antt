@@ -5,3 +5,6 @@ pub mod Numbers
 pub mod Wholes
 pub mod Unchanged
 pub mod Order
+pub mod Verdicts
+pub mod Effects
+pub mod Polling

@@ -48,7 +48,7 @@ use Rattle.client.specs.declared.reset.WasReset.{WasReset}
 use Rattle.client.specs.declared.process.Processed.{Processed}
 
 -- what holds of both outcomes of a value that has to be there
-needing-cases : (P : Verdict → Type 0) {m : MaybeNumber} (number : ℕ) (next : ℕ → Verdict) → P (PassedOver number) → ((n : ℕ) → m ≡ Some n → P (next n)) → P (needing m number next)
+pub needing-cases : (P : Verdict → Type 0) {m : MaybeNumber} (number : ℕ) (next : ℕ → Verdict) → P (PassedOver number) → ((n : ℕ) → m ≡ Some n → P (next n)) → P (needing m number next)
 unfolding needing
 needing-cases P {m = None} number next p f = p
 needing-cases P {m = Some n} number next p f = f n refl
@@ -102,7 +102,7 @@ lease-whole server address prefix reply h =
     sym (if-false _ (ap not (le-leb prefix 32 h)) (if-false _ (le-ltb 3 _ (few-addresses (optionData dnsCode reply))) (sym (store-sound reply .whole))))
 
 -- the parts of a whole client
-settings-whole : (c : Client) → wholeClient c ≡ true → refusalOf (c .settings) ≡ None
+pub settings-whole : (c : Client) → wholeClient c ≡ true → refusalOf (c .settings) ≡ None
 unfolding wholeClient
 settings-whole c = step (refusalOf (c .settings))
   where
@@ -110,7 +110,7 @@ settings-whole c = step (refusalOf (c .settings))
     step None h = refl
     step (Some n) h = cc
 
-lease-fits : (c : Client) → wholeClient c ≡ true → leaseFits (c .state) (c .lease) ≡ true
+pub lease-fits : (c : Client) → wholeClient c ≡ true → leaseFits (c .state) (c .lease) ≡ true
 unfolding wholeClient
 lease-fits c = step (refusalOf (c .settings))
   where
@@ -119,23 +119,23 @@ lease-fits c = step (refusalOf (c .settings))
     step (Some n) h = cc
 
 -- a lease that is not read fits, and one that is read fits if it is whole
-unread-fits : (state : ClientState) (lease : DhcpLease) → hasLease state ≡ false → leaseFits state lease ≡ true
+pub unread-fits : (state : ClientState) (lease : DhcpLease) → hasLease state ≡ false → leaseFits state lease ≡ true
 unfolding leaseFits
 unread-fits state lease e = sym (if-false _ e refl)
 
-read-fits : (state : ClientState) (lease : DhcpLease) → hasLease state ≡ true → wholeLease lease ≡ true → leaseFits state lease ≡ true
+pub read-fits : (state : ClientState) (lease : DhcpLease) → hasLease state ≡ true → wholeLease lease ≡ true → leaseFits state lease ≡ true
 unfolding leaseFits
 read-fits state lease e h = sym (if-true _ e (sym h))
 
-parts-whole : (c : Client) → refusalOf (c .settings) ≡ None → leaseFits (c .state) (c .lease) ≡ true → wholeClient c ≡ true
+pub parts-whole : (c : Client) → refusalOf (c .settings) ≡ None → leaseFits (c .state) (c .lease) ≡ true → wholeClient c ≡ true
 unfolding wholeClient
 parts-whole c e h = rw e h
 
-all-whole : (c : Client) (t : Tables) → wholeClient c ≡ true → wholeTables t ≡ true → wholeAll c t ≡ true
+pub all-whole : (c : Client) (t : Tables) → wholeClient c ≡ true → wholeTables t ≡ true → wholeAll c t ≡ true
 unfolding wholeAll
 all-whole c t h k = sym (if-true false h (sym k))
 
-all-parts : (c : Client) (t : Tables) → wholeAll c t ≡ true → (wholeClient c ≡ true) × (wholeTables t ≡ true)
+pub all-parts : (c : Client) (t : Tables) → wholeAll c t ≡ true → (wholeClient c ≡ true) × (wholeTables t ≡ true)
 unfolding wholeAll
 all-parts c t h = both-true (wholeClient c) h
 
@@ -144,7 +144,7 @@ pub created-whole : (s : Settings) (ignoring : Bool) → refusalOf s ≡ None �
 unfolding created
 created-whole s ignoring e = rw e (parts-whole (fresh s ignoring) e (unread-fits Init noLease refl))
 
-abbrev Whole : Settled → Type 0
+abbrev pub Whole : Settled → Type 0
 Whole s = wholeAll (s .client) (s .tables) ≡ true
 
 module _ (c : Client) (t : Tables) (h : wholeAll c t ≡ true) where
@@ -154,7 +154,7 @@ module _ (c : Client) (t : Tables) (h : wholeAll c t ≡ true) where
   tables-whole : wholeTables t ≡ true
   tables-whole = all-parts c t h .1
 
-  cleared-whole : Whole (cleared c t)
+  pub cleared-whole : Whole (cleared c t)
   unfolding cleared all
   cleared-whole = if-cases Whole (hasLease (c .state)) (λ e. gone) (λ e. over)
     where

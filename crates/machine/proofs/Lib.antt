@@ -1,4 +1,5 @@
 pub mod Rows
 pub mod Order
+pub mod Bounds
 pub mod Timers
 pub mod Decisions
