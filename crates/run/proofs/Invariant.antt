@@ -1,0 +1,480 @@
+-- What holds all along a run of our calls: deadlines on time that never wraps, and that history, lease and tables agree with
+-- them. Assumes nothing.
+use Prim.Native.Nat.{ℕ, _+_, _-_, _≤_, _<_}
+use mathlib.Core.Path.{_≡_, refl, sym, ap, _∙_, subst, subst⁻¹}
+use mathlib.Core.Bool.{Bool, true, false, not, false≢true}
+use mathlib.Core.List.{List, [], _∷_}
+use native.Mathlib.Omega.{arith}
+use native.Mathlib.Decide.{decLe}
+use lib.Dec.{leb}
+use borrow.Author.Tests.{le-leb, lt-leb}
+use Rattle.clock.specs.Choice.{if_then_else_}
+use Rattle.clock.specs.Durations.{longest, duration}
+use Rattle.clock.specs.Moments.{wrap, moment}
+use Rattle.clock.specs.declared.instant.Instant.{Instant}
+use Rattle.clock.specs.declared.rand.Rand.{Rand}
+use Rattle.clock.specs.declared.waits.Waits.{Waits}
+use Rattle.clock.proofs.Choices.{if-true, if-false, if-cases}
+use Rattle.clock.proofs.MomentLaws.{plus-near}
+use Rattle.octets.specs.Addresses.{unicast}
+use Rattle.octets.specs.declared.number.MaybeNumber.{MaybeNumber}
+use Rattle.octets.specs.declared.number.MaybeNumber.the-variants.{None, Some}
+use Rattle.wire.specs.Options.{optionData}
+use Rattle.wire.specs.Readings.{messageType, addressOf, secondsOf, ifUnicast, router, routerCode}
+use Rattle.machine.specs.States.{hasLease, offer, ack, nak, requesting}
+use Rattle.machine.specs.Times.{given, timesOf, renewAfter, rebindAfter}
+use Rattle.machine.specs.Polling.{following, InRange}
+use Rattle.machine.specs.declared.state.ClientState.{ClientState}
+use Rattle.machine.specs.declared.state.ClientState.the-variants.{Init, Discovering, Requesting, Renewing}
+use Rattle.machine.specs.declared.poll.Sending.{Sending}
+use Rattle.machine.specs.declared.poll.Sending.the-variants as message
+use Rattle.machine.proofs.Timers.{Timers, unset, single, leased, Shows, init, discovering, requesting as requesting-shows, renewing, Dated, dated-later, Near, dated-near, Ahead, ahead-dated}
+use Rattle.machine.proofs.Decisions.{Over, Goes, discovers-from, requests-again, renews}
+use Rattle.machine.proofs.Bounds.{lease-most, row-nearer}
+use Rattle.tables.specs.Entries.{only, full, lessLost}
+use Rattle.tables.specs.Tables.{addrsOf, routesOf, addrIsDhcp, routeIsDhcp, dhcpAddrs, otherAddrs, dhcpRoutes, otherRoutes}
+use Rattle.tables.specs.declared.address.IfaceAddr.{IfaceAddr}
+use Rattle.tables.specs.declared.address.AddrTable.{AddrTable}
+use Rattle.tables.specs.declared.route.Route.{Route}
+use Rattle.tables.specs.declared.route.RouteTable.{RouteTable}
+use Rattle.tables.specs.Applied.{sameCidr, sameRouter, leasedAddrs, defaultRoute, leasedRoutes}
+use Rattle.tables.specs.declared.tables.Tables.{Tables}
+use Rattle.tables.specs.declared.apply.MaybeCidr.{MaybeCidr}
+use Rattle.tables.specs.declared.apply.MaybeCidr.the-variants.{Absent, Cidr}
+use Rattle.tables.specs.declared.apply.Installed.{Installed}
+use Rattle.tables.specs.declared.manual.Changed.{Changed}
+use Rattle.tables.proofs.Origins.{same-cidr, same-cidr-self, same-router, same-router-self}
+use Rattle.tables.proofs.ByHand.{add-address-law, drop-address-law, add-route-law, drop-route-law}
+use Rattle.client.specs.Settings.{maximumOf}
+use Rattle.client.specs.Leases.{nothing}
+use Rattle.client.specs.Judged.{maskCode}
+use Rattle.client.specs.Resets.{wasReset}
+use Rattle.client.specs.Taken.{leaseTimeCode, renewalCode, rebindingCode, replyLease, replyRow, boundBy, processed}
+use Rattle.client.specs.Taken as taken
+use Rattle.client.specs.Polls.{PolledInto, refusedBy, passedBy, moved, polled}
+use Rattle.client.specs.declared.settings.Settings.{Settings}
+use Rattle.client.specs.declared.client.Client.{Client}
+use Rattle.client.specs.declared.process.Processed.{Processed}
+use Rattle.client.specs.declared.process.ReplyOutcome.{ReplyOutcome}
+use Rattle.client.specs.declared.process.ReplyOutcome.the-variants as reply
+use Rattle.client.specs.declared.reset.ResetOutcome.{ResetOutcome}
+use Rattle.client.specs.declared.reset.ResetOutcome.the-variants as reset
+use Rattle.client.proofs.Unchanged.{wasTaken, wasMade, refused-kept}
+use Rattle.client.proofs.Verdicts.{Reads, begun}
+use Rattle.client.proofs.Effects.{Entered, gives, Settles, reset-settles, reset-clears, Given, Became, unmoved, offered, was-acked, was-cleared, reply-effect, Fitting, moved-settles}
+use Rattle.run.specs.Calls.{Manual, AddAddress, DropAddress, AddRoute, DropRoute, Query, Call, Poll, Reply, Reset, ByHand, LookUp, Calls, changedBy, ours}
+use Rattle.run.specs.Demand3.{Told, OfPoll, OfReply, OfReset, OfOther, told, called, prefixBy, cidrOf, givenBy, Event, Polled, Acked, Cleared, acceptedAs, accepted, events, History, NoAck, Held, older, expired, notedAll, isHeld, heldBy, Lost, lostBy, lostAll, Since, never, since, later, isPolled, inTime, counted, unlessLost, routesBy}
+use Rattle.run.specs.declared.post.Post.{Post}
+use Rattle.run.proofs.Polls.{polled-cases, Outcome, refuses, idles, moves, outcome}
+
+-- HISTORY AND DEADLINES
+
+-- Expiry lies L after the ACK that is held; without one there is none.
+abbrev pub Agree : ℕ → History → Timers → Type 0
+Agree t NoAck unset = Unit {0}
+Agree t NoAck (single r) = Unit {0}
+Agree t NoAck (leased a b e g) = ⊥
+Agree t (Held l age i) unset = ⊥
+Agree t (Held l age i) (single r) = ⊥
+Agree t (Held l age i) (leased a b e g) = e + age ≡ t + l
+
+agree-later : (y t : ℕ) (h : History) (x : Timers) → Agree t h x → Agree (t + y) (older y h) x
+agree-later y t NoAck unset a = tt
+agree-later y t NoAck (single r) a = tt
+agree-later y t NoAck (leased p b e g) a = absurd a
+agree-later y t (Held l age i) unset a = absurd a
+agree-later y t (Held l age i) (single r) a = absurd a
+agree-later y t (Held l age i) (leased p b e g) a = omega arith
+
+agree-same : (t : ℕ) (h : History) (a b e : ℕ) (g : Bool) (a′ b′ : ℕ) (g′ : Bool) → Agree t h (leased a b e g) → Agree t h (leased a′ b′ e g′)
+agree-same t NoAck a b e g a′ b′ g′ k = k
+agree-same t (Held l age i) a b e g a′ b′ g′ k = k
+
+-- Before the first poll nothing is open; after it deadlines lie no further back than the last poll.
+abbrev pub DatedBy : Since → ℕ → Timers → Type 0
+DatedBy never t unset = Unit {0}
+DatedBy never t (single r) = ⊥
+DatedBy never t (leased a b e g) = ⊥
+DatedBy (since k) t x = Dated k t x
+
+dated-by-later : (y : ℕ) (gp : Since) (t : ℕ) (x : Timers) → DatedBy gp t x → DatedBy (later y gp) (t + y) x
+dated-by-later y never t unset d = tt
+dated-by-later y never t (single r) d = absurd d
+dated-by-later y never t (leased a b e g) d = absurd d
+dated-by-later y (since k) t x d = dated-later k y t x d
+
+dated-unset : (gp : Since) (t : ℕ) → DatedBy gp t unset
+dated-unset never t = tt
+dated-unset (since k) t = tt
+
+-- deadlines are near, or a poll that is not refused comes too late for the premise
+data Timing (gp : Since) (t : ℕ) (x : Timers) : Type 0 where
+  in-time : Near t x → Timing gp t x
+  late : (inTime true gp → ⊥) → Timing gp t x
+
+timing : (gp : Since) (t : ℕ) (x : Timers) → DatedBy gp t x → Timing gp t x
+timing never t unset d = in-time tt
+timing never t (single r) d = absurd d
+timing never t (leased a b e g) d = absurd d
+timing (since k) t x d = by (decLe k longest)
+  where
+    by : Dec (k ≤ longest) → Timing (since k) t x
+    by (yes l) = in-time (dated-near k t x l d)
+    by (no f) = late f
+
+-- once a message was sent, deadlines that lie no further back may be set
+dated-anew : (gp : Since) (t : ℕ) (x : Timers) (state : ClientState) → Shows x state → DatedBy gp t x → begun state ≡ true → (x′ : Timers) → ((k : ℕ) → Dated k t x′) → DatedBy gp t x′
+dated-anew never t x state init d b x′ f = absurd (false≢true b)
+dated-anew never t x state (discovering h) d b x′ f = absurd d
+dated-anew never t x state (requesting-shows h) d b x′ f = absurd d
+dated-anew never t x state (renewing h i j) d b x′ f = absurd d
+dated-anew (since k) t x state sh d b x′ f = f k
+
+-- A lease is in force exactly if an ACK is held.
+pub lease-is : (t : ℕ) (h : History) (x : Timers) (state : ClientState) → Shows x state → Agree t h x → hasLease state ≡ isHeld h
+lease-is t NoAck x state init a = refl
+lease-is t NoAck x state (discovering e) a = refl
+lease-is t NoAck x state (requesting-shows e) a = refl
+lease-is t NoAck x state (renewing e f g) a = absurd a
+lease-is t (Held l age i) x state init a = absurd a
+lease-is t (Held l age i) x state (discovering e) a = absurd a
+lease-is t (Held l age i) x state (requesting-shows e) a = absurd a
+lease-is t (Held l age i) x state (renewing e f g) a = refl
+
+-- a poll before expiry leaves the history, one from there on clears it
+module _ (t : ℕ) where
+  held-on : (h : History) (a b e : ℕ) (g : Bool) → Agree t h (leased a b e g) → t < e → expired h ≡ h
+  unfolding expired
+  held-on NoAck a b e g k p = absurd k
+  held-on (Held l age i) a b e g k p = sym (if-false _ (lt-leb l age (omega arith)) refl)
+
+  none-held : (h : History) (x : Timers) → Agree t h x → Over t x → expired h ≡ NoAck
+  unfolding expired
+  none-held NoAck x k o = refl
+  none-held (Held l age i) unset k o = absurd k
+  none-held (Held l age i) (single r) k o = absurd k
+  none-held (Held l age i) (leased a b e g) k o = sym (if-true _ (le-leb l age (omega arith)) refl)
+
+  ahead-held : (h : History) (x : Timers) → Agree t h x → Ahead t x → expired h ≡ h
+  unfolding expired
+  ahead-held h unset k l = absurd l
+  ahead-held NoAck (single r) k l = refl
+  ahead-held (Held lease age i) (single r) k l = absurd k
+  ahead-held h (leased a b e g) k l = held-on h a b e g k (l .0 .0)
+
+-- THE TABLES
+
+-- DHCP's entries are those that the ACK gives, less any lost.
+pub record Tab (tb : Tables) (lost : Lost) (i : Installed) : Type 0 where
+  pub addrs : dhcpAddrs tb ≡ unlessLost (lost .addr) (leasedAddrs (i .address))
+  pub routes : dhcpRoutes tb ≡ unlessLost (lost .route) (routesBy (i .router))
+
+lost-none : {A : Type 0} (b : Bool) → unlessLost {A = A} b [] ≡ []
+unfolding unlessLost if_then_else_
+lost-none true = refl
+lost-none false = refl
+
+none-taken : {A : Type 0} (others : List A) → lessLost {A = A} others [] ≡ []
+unfolding lessLost if_then_else_
+none-taken {A} others = by (full others)
+  where
+    by : (b : Bool) → if_then_else_ {A = List A} b [] [] ≡ []
+    by true = refl
+    by false = refl
+
+module _ (tb tb′ : Tables) (lost : Lost) where
+  tab-kept : (i : Installed) → Entered tb tb′ i i → Tab tb lost i → Tab tb′ lost i
+  tab-kept i n k =
+      record {
+        addrs = n .addrs ∙ sym (if-true _ (same-cidr-self (i .address)) refl) ∙ k .addrs;
+        routes = n .routes ∙ sym (if-true _ (same-router-self (i .router)) refl) ∙ k .routes;
+      }
+
+  tab-none : (i : Installed) → Entered tb tb′ i nothing → Tab tb lost i → Tab tb′ lost nothing
+  unfolding leasedRoutes
+  tab-none i n k =
+      record {
+        addrs = n .addrs ∙ no-addrs (i .address) (k .addrs) ∙ sym (lost-none (lost .addr));
+        routes = n .routes ∙ no-routes (i .router) (k .routes) ∙ sym (lost-none (lost .route));
+      }
+    where
+      no-addrs : (m : MaybeCidr) → dhcpAddrs tb ≡ unlessLost (lost .addr) (leasedAddrs m) → (if sameCidr Absent m then dhcpAddrs tb else lessLost (otherAddrs tb) []) ≡ []
+      no-addrs Absent e = sym (if-true _ refl refl) ∙ e ∙ lost-none (lost .addr)
+      no-addrs (Cidr a p) e = sym (if-false _ refl refl) ∙ none-taken (otherAddrs tb)
+
+      no-routes : (m : MaybeNumber) → dhcpRoutes tb ≡ unlessLost (lost .route) (routesBy m) → (if sameRouter None m then dhcpRoutes tb else lessLost (otherRoutes tb) []) ≡ []
+      no-routes None e = sym (if-true _ refl refl) ∙ e ∙ lost-none (lost .route)
+      no-routes (Some a) e = sym (if-false _ refl refl) ∙ none-taken (otherRoutes tb)
+
+  -- what an ACK loses of what it enters
+  abbrev lostFor : Installed → Installed → Lost
+  lostFor new old = record {
+    addr = if sameCidr (new .address) (old .address) then lost .addr else full (otherAddrs tb);
+    route = if sameRouter (new .router) (old .router) then lost .route else full (otherRoutes tb);
+  }
+
+  tab-acked : (old new : Installed) → Entered tb tb′ old new → leasedRoutes (new .router) ≡ routesBy (new .router) → Tab tb lost old → Tab tb′ (lostFor new old) new
+  unfolding lessLost unlessLost if_then_else_
+  tab-acked old new n u k =
+      record {
+        addrs = n .addrs ∙ of-addrs (sameCidr (new .address) (old .address)) refl;
+        routes = n .routes ∙ of-routes (sameRouter (new .router) (old .router)) refl;
+      }
+    where
+      of-addrs : (b : Bool) → sameCidr (new .address) (old .address) ≡ b
+          → (if b then dhcpAddrs tb else lessLost (otherAddrs tb) (leasedAddrs (new .address))) ≡ unlessLost (if b then lost .addr else full (otherAddrs tb)) (leasedAddrs (new .address))
+      of-addrs true e = k .addrs ∙ ap (λ (m : MaybeCidr). unlessLost (lost .addr) (leasedAddrs m)) (sym (same-cidr (new .address) (old .address) e))
+      of-addrs false e = refl
+
+      of-routes : (b : Bool) → sameRouter (new .router) (old .router) ≡ b
+          → (if b then dhcpRoutes tb else lessLost (otherRoutes tb) (leasedRoutes (new .router))) ≡ unlessLost (if b then lost .route else full (otherRoutes tb)) (routesBy (new .router))
+      of-routes true e = k .routes ∙ ap (λ (m : MaybeNumber). unlessLost (lost .route) (routesBy m)) (sym (same-router (new .router) (old .router) e))
+      of-routes false e = ap (lessLost (otherRoutes tb)) u
+
+-- a router that a reply gives makes a route
+routed : (m : MaybeNumber) → leasedRoutes (ifUnicast m) ≡ routesBy (ifUnicast m)
+unfolding leasedRoutes
+routed None = refl
+routed (Some a) = if-cases (λ (r : MaybeNumber). leasedRoutes r ≡ routesBy r) (unicast a) (λ u. sym (if-true _ u refl)) (λ u. refl)
+
+-- THE RUN
+
+-- At t, gp after the last poll that was not refused.
+pub record Inv (s : Settings) (gp : Since) (t : ℕ) (c : Client) (tb : Tables) (h : History) (lost : Lost) : Type 0 where
+  pub x : Timers
+  pub shows : Shows x (c .state)
+  pub dated : DatedBy gp t x
+  pub agrees : Agree t h x
+  pub settings-are : c .settings ≡ s
+  pub given-is : gives c ≡ heldBy h
+  pub tab : Tab tb lost (heldBy h)
+
+held-older : (y : ℕ) (h : History) → heldBy (older y h) ≡ heldBy h
+held-older y NoAck = refl
+held-older y (Held l age i) = refl
+
+pub inv-later : (s : Settings) (gp : Since) (t y : ℕ) (c : Client) (tb : Tables) (h : History) (lost : Lost) → Inv s gp t c tb h lost → Inv s (later y gp) (t + y) c tb (older y h) lost
+inv-later s gp t y c tb h lost i =
+    record {
+      x = i .x;
+      shows = i .shows;
+      dated = dated-by-later y gp t (i .x) (i .dated);
+      agrees = agree-later y t h (i .x) (i .agrees);
+      settings-are = i .settings-are;
+      given-is = i .given-is ∙ sym (held-older y h);
+      tab = rw (held-older y h) (i .tab);
+    }
+
+-- what no event but a poll's does to the premise, and what a reply's message type makes of it
+offer-accepted : (s : Settings) (bytes : List ℕ) → accepted s bytes (Some offer) ≡ []
+unfolding acceptedAs if_then_else_
+offer-accepted s bytes = refl
+
+ack-accepted : (s : Settings) (bytes : List ℕ) → accepted s bytes (Some ack) ≡ Acked (replyLease (maximumOf s) bytes) (givenBy bytes) ∷ []
+unfolding acceptedAs if_then_else_
+ack-accepted s bytes = refl
+
+nak-accepted : (s : Settings) (bytes : List ℕ) → accepted s bytes (Some nak) ≡ Cleared ∷ []
+unfolding acceptedAs if_then_else_
+nak-accepted s bytes = refl
+
+taken-events : (s : Settings) (bytes : List ℕ) (o : ReplyOutcome) → wasTaken o ≡ true → {kind : ℕ} → messageType bytes ≡ Some kind → events s (OfReply bytes o) ≡ accepted s bytes (Some kind)
+taken-events s bytes (reply.Taken p) e f = ap (accepted s bytes) f
+taken-events s bytes (reply.PassedOver n) e f = absurd (false≢true e)
+taken-events s bytes (reply.Refused n) e f = absurd (false≢true e)
+
+untaken-events : (s : Settings) (bytes : List ℕ) (o : ReplyOutcome) → wasTaken o ≡ false → events s (OfReply bytes o) ≡ []
+untaken-events s bytes (reply.Taken p) e = absurd (false≢true (sym e))
+untaken-events s bytes (reply.PassedOver n) e = refl
+untaken-events s bytes (reply.Refused n) e = refl
+
+-- DHCP's entries of one table
+abbrev own-in : AddrTable → List IfaceAddr
+own-in t = only addrIsDhcp (addrsOf t)
+
+abbrev dhcp-in : RouteTable → List Route
+dhcp-in t = only routeIsDhcp (routesOf t)
+
+-- what an ACK gives is what its bytes say
+given-by : (bytes : List ℕ) (i : Installed) → Given bytes i → i ≡ givenBy bytes
+given-by bytes i g =
+    let r = g .reads in
+    g .is ∙ ap (λ (m : MaybeCidr). record { address = m; router = router bytes }) (sym (rw (r .address-is, r .masked, r .prefix-is) refl))
+
+module _ (s : Settings) (gp : Since) (t : ℕ) (c : Client) (tb : Tables) (g : Rand) (h : History) (lost : Lost) (i : Inv s gp t c tb h lost) where
+  -- What is owed of a call that leaves c′ and tb′ and tells the history of these events.
+  abbrev pub Step : List Event → Client → Tables → Type 0
+  Step vs c′ tb′ = Inv s (counted (isPolled vs) gp) t c′ tb′ (notedAll vs h) (lostAll tb vs h lost)
+
+  -- the lease stays, or is gone
+  goes-on : (x′ : Timers) {c′ : Client} {tb′ : Tables} (gp′ : Since) → Shows x′ (c′ .state) → DatedBy gp′ t x′ → Agree t h x′ → Settles c tb c′ tb′ → gives c′ ≡ gives c → Inv s gp′ t c′ tb′ h lost
+  goes-on x′ {c′} {tb′} gp′ sh d a n e =
+      record {
+        x = x′;
+        shows = sh;
+        dated = d;
+        agrees = a;
+        settings-are = n .settings ∙ i .settings-are;
+        given-is = e ∙ i .given-is;
+        tab = tab-kept tb tb′ lost (heldBy h) (subst (λ (k : Installed). Entered tb tb′ k k) (i .given-is) (subst (Entered tb tb′ (gives c)) e (n .entries))) (i .tab);
+      }
+
+  ends : (x′ : Timers) {c′ : Client} {tb′ : Tables} (gp′ : Since) → Shows x′ (c′ .state) → DatedBy gp′ t x′ → Agree t NoAck x′ → Settles c tb c′ tb′ → gives c′ ≡ nothing → Inv s gp′ t c′ tb′ NoAck lost
+  ends x′ {c′} {tb′} gp′ sh d a n e =
+      record {
+        x = x′;
+        shows = sh;
+        dated = d;
+        agrees = a;
+        settings-are = n .settings ∙ i .settings-are;
+        given-is = e;
+        tab = tab-none tb tb′ lost (heldBy h) (subst (λ (k : Installed). Entered tb tb′ k nothing) (i .given-is) (subst (Entered tb tb′ (gives c)) e (n .entries))) (i .tab);
+      }
+
+  -- by the state it is seen what a client gives without a lease
+  gives-none : (c′ : Client) (state : ClientState) → c′ .state ≡ state → hasLease state ≡ false → gives c′ ≡ nothing
+  unfolding taken.heldBy
+  gives-none c′ state e f = sym (if-false _ (ap hasLease e ∙ f) refl)
+
+  clears : {c′ : Client} {tb′ : Tables} → c′ .state ≡ Init → Settles c tb c′ tb′ → Inv s gp t c′ tb′ NoAck lost
+  clears {c′} e n = ends unset gp (subst⁻¹ (Shows unset) e init) (dated-unset gp t) tt n (gives-none c′ Init e refl)
+
+  -- A POLL
+  abbrev PollStep : PolledInto → Type 0
+  PollStep r = inTime (isPolled (events s (OfPoll (r .polled .outcome)))) gp → Step (events s (OfPoll (r .polled .outcome))) (r .polled .client) (r .polled .tables)
+
+  gives-same : (state : ClientState) → hasLease (c .state) ≡ true → hasLease state ≡ true → taken.heldBy state (c .lease) ≡ gives c
+  unfolding taken.heldBy
+  gives-same state e f = sym (if-true _ f refl) ∙ if-true _ e refl
+
+  module _ (b : List ℕ) where
+    fitting : {x x′ : Timers} {m : Sending} {state : ClientState} → Shows x state → Goes t x m x′ → (c′ : Client) → c′ .state ≡ state → Fitting c′ m
+    fitting sh (discovers-from o) c′ e = tt
+    fitting (discovering p) requests-again c′ e = ap hasLease e
+    fitting (requesting-shows p) requests-again c′ e = ap hasLease e
+    fitting (renewing p q r) (renews l) c′ e = ap hasLease e
+
+    moved-step : {x x′ : Timers} {m : Sending} (now : Instant) → Goes t x m x′ → Fitting c m → Agree t h x → Shows x′ (following m) → Ahead t x′
+        → Inv s (since 0) t (moved c tb g b now m .polled .client) (moved c tb g b now m .polled .tables) (expired h) lost
+    moved-step {x} {x′} {m} now (discovers-from {s = d} o) f k sh a =
+        rw (none-held t h x k o)
+        (ends x′ (since 0) sh (ahead-dated t x′ a) tt (moved-settles c tb g b now m f) (gives-none (moved c tb g b now m .polled .client) (Discovering d) refl refl))
+    moved-step {x} {x′} {m} now (requests-again {s = d}) f k sh a =
+        rw (none-held t h x k tt)
+        (ends x′ (since 0) sh (ahead-dated t x′ a) tt (moved-settles c tb g b now m f) (gives-none (moved c tb g b now m .polled .client) (Requesting d) refl refl))
+    moved-step {x} {x′} {m} now (renews {a = p} {b = q} {e = e} {a′ = p′} {b′ = q′} {g = v} {g′ = v′} {s = d} l) f k sh a =
+        rw (held-on t h p q e v k l)
+        (goes-on x′ (since 0) sh (ahead-dated t x′ a) (agree-same t h p q e v p′ q′ v′ k) (moved-settles c tb g b now m f) (gives-same (Renewing d) f refl))
+
+    by-outcome : {x : Timers} {r : PolledInto} → Outcome c tb g b t x r → Shows x (c .state) → Agree t h x → PollStep r
+    unfolding lostBy
+    by-outcome refuses sh k l = i
+    by-outcome {x} (idles e a v) sh k l =
+        let q = ahead-held t h x k a in
+        rw q
+        (record {
+          x = x;
+          shows = sh;
+          dated = ahead-dated t x a;
+          agrees = k;
+          settings-are = i .settings-are;
+          given-is = i .given-is;
+          tab = i .tab;
+        })
+    by-outcome (moves {m} x′ e go sh a p v) old k l = moved-step (moment m) go (fitting old go c refl) k sh a
+
+  pub poll-step : (w : Waits) → InRange w → (b : List ℕ) → PollStep (polled w c tb g (moment (wrap t)) b)
+  poll-step w z b = by (timing gp t (i .x) (i .dated))
+    where
+      by : Timing gp t (i .x) → PollStep (polled w c tb g (moment (wrap t)) b)
+      by (in-time n) = by-outcome b (outcome c tb g b w z t (i .x) (i .shows) n) (i .shows) (i .agrees)
+      by (late f) = polled-cases c tb g b PollStep (λ n l. i) (λ m l. absurd (f l)) (λ m q l. absurd (f l)) w (moment (wrap t))
+
+  -- A REPLY
+  lease-none : hasLease (c .state) ≡ false → (r : ℕ) → Agree t h (single r)
+  lease-none e r = by h (sym (lease-is t h (i .x) (c .state) (i .shows) (i .agrees)) ∙ e)
+    where
+      by : (h : History) → isHeld h ≡ false → Agree t h (single r)
+      by NoAck f = tt
+      by (Held l age k) f = absurd (false≢true (sym f))
+
+  abbrev lease : List ℕ → ℕ
+  lease bytes = replyLease (maximumOf s) bytes
+
+  abbrev bound : List ℕ → Timers
+  bound bytes = leased (t + renewAfter (replyRow bytes (lease bytes)) (lease bytes)) (t + rebindAfter (replyRow bytes (lease bytes)) (lease bytes)) (t + lease bytes) false
+
+  bound-is : (bytes : List ℕ) → Shows (bound bytes) (boundBy s bytes (moment (wrap t)))
+  unfolding boundBy timesOf
+  bound-is bytes = renewing (plus-near t _) (plus-near t _) (plus-near t _)
+
+  bound-dated : (bytes : List ℕ) (k : ℕ) → Dated k t (bound bytes)
+  bound-dated bytes k =
+      let l = lease-most (secondsOf (optionData leaseTimeCode bytes)) (maximumOf s) in
+      let n = row-nearer (given (secondsOf (optionData renewalCode bytes))) (given (secondsOf (optionData rebindingCode bytes))) (lease bytes) l in
+      by (renewAfter (replyRow bytes (lease bytes)) (lease bytes)) (rebindAfter (replyRow bytes (lease bytes)) (lease bytes)) (lease bytes) (n .0) (n .1) l
+    where
+      by : (a b l : ℕ) → a < longest → b < longest → l ≤ longest → Dated k t (leased (t + a) (t + b) (t + l) false)
+      by a b l p q r = ((omega arith, omega arith), (omega arith, omega arith), (omega arith, omega arith))
+
+  acks : (bytes : List ℕ) {c′ : Client} {tb′ : Tables} → begun (c .state) ≡ true → c′ .state ≡ boundBy (c .settings) bytes (moment (wrap t)) → Given bytes (gives c′) → Settles c tb c′ tb′
+      → Inv s gp t c′ tb′ (Held (lease bytes) 0 (givenBy bytes)) (lostBy tb (Acked (lease bytes) (givenBy bytes)) h lost)
+  unfolding lostBy
+  acks bytes {c′} {tb′} b e v n =
+      let q = given-by bytes (gives c′) v in
+      record {
+        x = bound bytes;
+        shows = subst⁻¹ (Shows (bound bytes)) (e ∙ ap (λ (k : Settings). boundBy k bytes (moment (wrap t))) (i .settings-are)) (bound-is bytes);
+        dated = dated-anew gp t (i .x) (c .state) (i .shows) (i .dated) b (bound bytes) (bound-dated bytes);
+        agrees = omega arith;
+        settings-are = n .settings ∙ i .settings-are;
+        given-is = q;
+        tab =
+            tab-acked tb tb′ lost (heldBy h) (givenBy bytes)
+            (subst (λ (k : Installed). Entered tb tb′ k (givenBy bytes)) (i .given-is) (subst (Entered tb tb′ (gives c)) q (n .entries)))
+            (routed (addressOf (optionData routerCode bytes))) (i .tab);
+      }
+
+  abbrev ReplyStep : List ℕ → Processed → Type 0
+  ReplyStep bytes r = Step (events s (OfReply bytes (r .outcome))) (r .client) (r .tables)
+
+  by-reply : (bytes : List ℕ) (r : Processed) → Became c tb bytes (moment (wrap t)) r → Settles c tb (r .client) (r .tables) → ReplyStep bytes r
+  unfolding lostBy
+  by-reply bytes r (unmoved o e f) n =
+      subst⁻¹ (λ (vs : List Event). Step vs (r .client) (r .tables)) (untaken-events s bytes (r .outcome) o) (rw (e, f) i)
+  by-reply bytes r (offered server address o k l b e) n =
+      subst⁻¹ (λ (vs : List Event). Step vs (r .client) (r .tables)) (taken-events s bytes (r .outcome) o k ∙ offer-accepted s bytes)
+      (goes-on (single t) gp (subst⁻¹ (Shows (single t)) e (requesting-shows refl))
+      (dated-anew gp t (i .x) (c .state) (i .shows) (i .dated) b (single t) (λ k. (omega arith, omega arith))) (lease-none l t) n
+      (gives-none (r .client) (requesting server address (moment (wrap t))) e refl ∙ sym (gives-none c (c .state) refl l)))
+  by-reply bytes r (was-acked o k b e v) n =
+      subst⁻¹ (λ (vs : List Event). Step vs (r .client) (r .tables)) (taken-events s bytes (r .outcome) o k ∙ ack-accepted s bytes) (acks bytes b e v n)
+  by-reply bytes r (was-cleared o k e) n =
+      subst⁻¹ (λ (vs : List Event). Step vs (r .client) (r .tables)) (taken-events s bytes (r .outcome) o k ∙ nak-accepted s bytes) (clears e n)
+
+  pub reply-step : (source : ℕ) (bytes : List ℕ) → ReplyStep bytes (processed c tb source bytes (moment (wrap t)))
+  reply-step source bytes =
+      let k = reply-effect c tb bytes (moment (wrap t)) source in
+      by-reply bytes (processed c tb source bytes (moment (wrap t))) (k .0) (k .1)
+
+  -- A RESET
+  pub reset-step : Step (events s (OfReset (wasReset c tb .outcome))) (wasReset c tb .client) (wasReset c tb .tables)
+  unfolding lostBy
+  reset-step = by (wasReset c tb .outcome) refl
+    where
+      by : (o : ResetOutcome) → wasReset c tb .outcome ≡ o → Step (events s (OfReset o)) (wasReset c tb .client) (wasReset c tb .tables)
+      by (reset.Done p) e = clears (reset-clears c tb (ap wasMade e)) (reset-settles c tb)
+      by (reset.Refused n) e = let k = refused-kept c tb (ap wasMade e) in rw (k .0, k .1) i
+
+  -- A MANUAL CALL
+  pub hand-step : (m : Manual) → Inv s gp t c (changedBy m tb .tables) h lost
+  hand-step m = record { x = i .x; shows = i .shows; dated = i .dated; agrees = i .agrees; settings-are = i .settings-are; given-is = i .given-is; tab = by m }
+    where
+      kept : {tb′ : Tables} → dhcpAddrs tb′ ≡ dhcpAddrs tb → dhcpRoutes tb′ ≡ dhcpRoutes tb → Tab tb′ lost (heldBy h)
+      kept e f = record { addrs = e ∙ i .tab .addrs; routes = f ∙ i .tab .routes }
+
+      by : (m : Manual) → Tab (changedBy m tb .tables) lost (heldBy h)
+      by (AddAddress a p) = let k = add-address-law tb a p in kept (k .own) (ap dhcp-in (k .routes))
+      by (DropAddress a p) = let k = drop-address-law tb a p in kept (k .own) (ap dhcp-in (k .routes))
+      by (AddRoute n p r) = let k = add-route-law tb n p r in kept (ap own-in (k .addrs)) (k .own)
+      by (DropRoute n p r) = let k = drop-route-law tb n p r in kept (ap own-in (k .addrs)) (k .own)
