@@ -172,9 +172,10 @@ module _ (c : Client) (t : Tables) (bytes : List ℕ) (now : Instant) where
 
   verdict-effect : (v : Verdict) → Says (c .state) bytes v → Effect (replied c t bytes now v)
   unfolding replied
-  verdict-effect (Offer o) h =
-      (offered (o .server) (o .address) refl (h .0) (h .1) (h .2) refl,
-      settles-by nothing nothing refl (gives-nothing (c .state) (c .lease) (h .1)) (gives-nothing (requesting (o .server) (o .address) now) (c .lease) refl) (entered-same t nothing))
+  verdict-effect (Offer o) h = (
+    offered (o .server) (o .address) refl (h .0) (h .1) (h .2) refl,
+    settles-by nothing nothing refl (gives-nothing (c .state) (c .lease) (h .1)) (gives-nothing (requesting (o .server) (o .address) now) (c .lease) refl) (entered-same t nothing),
+  )
   verdict-effect (Ack a) h =
       let k = acked-settles a in
       (was-acked refl (h .0) (h .2) (k .0) (record { address = a .address; prefix = a .prefix; reads = h .1; is = k .1 }), k .2)

@@ -1,6 +1,6 @@
 -- What is not taken changes nothing: a reply that is passed over, a call that is refused. Assumes nothing.
 use Prim.Native.Nat.{ℕ}
-use mathlib.Core.Path.{_≡_, refl, sym}
+use mathlib.Core.Path.{_≡_, refl, sym, ap, _∙_}
 use mathlib.Core.Bool.{Bool, true, false, not, false≢true}
 use mathlib.Core.List.{List}
 use Rattle.clock.proofs.Choices.{if-cases}
@@ -50,3 +50,29 @@ module _ (c : Client) (t : Tables) where
       if-cases (λ (r : WasReset). wasMade (r .outcome) ≡ false → (r .client ≡ c) × (r .tables ≡ t)) (not (wholeAll c t))
       (λ h e. (refl, refl))
       (λ h e. absurd (false≢true (sym e)))
+
+  -- Where client and tables are whole, no reply and no reset is refused.
+  abbrev Unrefused : Processed → Type 0
+  Unrefused p = (n : ℕ) → p .outcome ≡ reply.Refused n → ⊥
+
+  refusal : ReplyOutcome → Bool
+  refusal (reply.Taken purge) = false
+  refusal (reply.PassedOver n) = false
+  refusal (reply.Refused n) = true
+
+  verdict-answered : (bytes : List ℕ) (moment : Instant) (v : Verdict) → Unrefused (replied c t bytes moment v)
+  unfolding replied refusal
+  verdict-answered bytes moment (Offer o) n e = false≢true (ap refusal e)
+  verdict-answered bytes moment (Ack a) n e = false≢true (ap refusal e)
+  verdict-answered bytes moment Nak n e = false≢true (ap refusal e)
+  verdict-answered bytes moment (PassedOver m) n e = false≢true (ap refusal e)
+
+  pub reply-answered : wholeAll c t ≡ true → (source : ℕ) (bytes : List ℕ) (moment : Instant) → Unrefused (processed c t source bytes moment)
+  unfolding processed
+  reply-answered w source bytes moment =
+      if-cases Unrefused (not (wholeAll c t)) (λ h n e. false≢true (sym (ap not w) ∙ h)) (λ h. verdict-answered bytes moment (judged (recipientOf c) source bytes))
+
+  pub reset-made : wholeAll c t ≡ true → wasMade (wasReset c t .outcome) ≡ true
+  unfolding wasReset
+  reset-made w =
+      if-cases (λ (r : WasReset). wasMade (r .outcome) ≡ true) (not (wholeAll c t)) (λ h. absurd (false≢true (sym (ap not w) ∙ h))) (λ h. refl)

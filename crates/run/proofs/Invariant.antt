@@ -108,11 +108,11 @@ dated-unset never t = tt
 dated-unset (since k) t = tt
 
 -- deadlines are near, or a poll that is not refused comes too late for the premise
-data Timing (gp : Since) (t : ℕ) (x : Timers) : Type 0 where
+pub data Timing (gp : Since) (t : ℕ) (x : Timers) : Type 0 where
   in-time : Near t x → Timing gp t x
   late : (inTime true gp → ⊥) → Timing gp t x
 
-timing : (gp : Since) (t : ℕ) (x : Timers) → DatedBy gp t x → Timing gp t x
+pub timing : (gp : Since) (t : ℕ) (x : Timers) → DatedBy gp t x → Timing gp t x
 timing never t unset d = in-time tt
 timing never t (single r) d = absurd d
 timing never t (leased a b e g) d = absurd d
@@ -162,6 +162,13 @@ module _ (t : ℕ) where
   ahead-held (Held lease age i) (single r) k l = absurd k
   ahead-held h (leased a b e g) k l = held-on h a b e g k (l .0 .0)
 
+-- a Request leads from a state without a lease, or with one, to such a state
+pub fitting : {t : ℕ} {x x′ : Timers} {m : Sending} {state : ClientState} → Shows x state → Goes t x m x′ → (c : Client) → c .state ≡ state → Fitting c m
+fitting sh (discovers-from o) c e = tt
+fitting (discovering p) requests-again c e = ap hasLease e
+fitting (requesting-shows p) requests-again c e = ap hasLease e
+fitting (renewing p q r) (renews l) c e = ap hasLease e
+
 -- THE TABLES
 
 -- DHCP's entries are those that the ACK gives, less any lost.
@@ -169,7 +176,7 @@ pub record Tab (tb : Tables) (lost : Lost) (i : Installed) : Type 0 where
   pub addrs : dhcpAddrs tb ≡ unlessLost (lost .addr) (leasedAddrs (i .address))
   pub routes : dhcpRoutes tb ≡ unlessLost (lost .route) (routesBy (i .router))
 
-lost-none : {A : Type 0} (b : Bool) → unlessLost {A = A} b [] ≡ []
+pub lost-none : {A : Type 0} (b : Bool) → unlessLost {A = A} b [] ≡ []
 unfolding unlessLost if_then_else_
 lost-none true = refl
 lost-none false = refl
@@ -348,12 +355,6 @@ module _ (s : Settings) (gp : Since) (t : ℕ) (c : Client) (tb : Tables) (g : R
   gives-same state e f = sym (if-true _ f refl) ∙ if-true _ e refl
 
   module _ (b : List ℕ) where
-    fitting : {x x′ : Timers} {m : Sending} {state : ClientState} → Shows x state → Goes t x m x′ → (c′ : Client) → c′ .state ≡ state → Fitting c′ m
-    fitting sh (discovers-from o) c′ e = tt
-    fitting (discovering p) requests-again c′ e = ap hasLease e
-    fitting (requesting-shows p) requests-again c′ e = ap hasLease e
-    fitting (renewing p q r) (renews l) c′ e = ap hasLease e
-
     moved-step : {x x′ : Timers} {m : Sending} (now : Instant) → Goes t x m x′ → Fitting c m → Agree t h x → Shows x′ (following m) → Ahead t x′
         → Inv s (since 0) t (moved c tb g b now m .polled .client) (moved c tb g b now m .polled .tables) (expired h) lost
     moved-step {x} {x′} {m} now (discovers-from {s = d} o) f k sh a =

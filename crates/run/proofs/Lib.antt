@@ -1,2 +1,4 @@
 pub mod Polls
 pub mod Invariant
+pub mod Waking
+pub mod Whole
