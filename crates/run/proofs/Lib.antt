@@ -1,4 +1,5 @@
 pub mod Polls
 pub mod Invariant
 pub mod Waking
+pub mod Open
 pub mod Whole

@@ -1,6 +1,6 @@
 -- Our poll, sorted by its outcome: on time that never wraps where all open deadlines are near, and at any time. Assumes nothing.
 use Prim.Native.Nat.{ℕ, _-_, _≤_, _<_}
-use mathlib.Core.Path.{_≡_, refl, sym, ap, _∙_}
+use mathlib.Core.Path.{_≡_, refl, sym, ap, subst}
 use mathlib.Core.Bool.{Bool, true, false, not, false≢true}
 use mathlib.Core.List.{List, [], _∷_}
 use native.Mathlib.Omega.{arith}
@@ -29,7 +29,7 @@ use Rattle.run.specs.Demand3.{Enough, lengthIn, Builds}
 
 module _ (c : Client) (t : Tables) (g : Rand) (b : List ℕ) where
   -- what holds of a refusal, of a poll with nothing due and of one that sends, holds of a poll
-  sent-cases : (P : PolledInto → Type 0) → P (refusedBy c t g b 8) → (m : Instant) (s : Sending) → P (moved c t g b m s) → P (sent c t g b m s)
+  pub sent-cases : (P : PolledInto → Type 0) → P (refusedBy c t g b 8) → (m : Instant) (s : Sending) → P (moved c t g b m s) → P (sent c t g b m s)
   unfolding sent
   sent-cases P r m s f = if-cases P (tooShort b (length (datagramOf c g s))) (λ e. r) (λ e. f)
 
@@ -81,24 +81,19 @@ pub short-lent : (n : ℕ) (b : List ℕ) → tooShort b n ≡ true → (0 < len
 short-lent n [] e = absurd (false≢true e)
 short-lent n (y ∷ ys) e = (omega arith, ltb-true (length (y ∷ ys)) n e)
 
--- A decision to send: the message's length is one number, whatever the buffer.
-pub record Sends (c : Client) (t : Tables) (g : Rand) (d : Decision) : Type 0 where
-  pub sending-is : Sending
-  pub builds : (b : List ℕ) → tooShort b (length (datagramOf c g sending-is)) ≡ false → Builds (length (datagramOf c g sending-is)) b (polledBy c t g b d)
-  pub refuses : (b : List ℕ) → tooShort b (length (datagramOf c g sending-is)) ≡ true → polledBy c t g b d ≡ refusedBy c t g b 8
+-- A decision to send s: the message's length is one number, whatever the buffer.
+pub record Sends (c : Client) (t : Tables) (g : Rand) (d : Decision) (s : Sending) : Type 0 where
+  pub builds : (b : List ℕ) → tooShort b (length (datagramOf c g s)) ≡ false → Builds (length (datagramOf c g s)) b (polledBy c t g b d)
+  pub refuses : (b : List ℕ) → tooShort b (length (datagramOf c g s)) ≡ true → polledBy c t g b d ≡ refusedBy c t g b 8
 
 moved-builds : (c : Client) (t : Tables) (g : Rand) (m : Instant) (s : Sending) (b : List ℕ) → Builds (length (datagramOf c g s)) b (moved c t g b m s)
 moved-builds c t g m s [] = record { answer = _; answered = refl; length = refl }
 moved-builds c t g m s (y ∷ ys) = record { answer = _; answered = refl; length = refl }
 
-pub sends-by : (c : Client) (t : Tables) (g : Rand) (m : Instant) (s : Sending) → Sends c t g (record { due = Send s; wake = m })
+pub sends-by : (c : Client) (t : Tables) (g : Rand) (m : Instant) (s : Sending) → Sends c t g (record { due = Send s; wake = m }) s
 unfolding sent
 sends-by c t g m s =
     record {
-      sending-is = s;
-      builds = λ b e. subst-builds b (if-false _ e refl);
+      builds = λ b e. subst (Builds (length (datagramOf c g s)) b) (if-false _ e refl) (moved-builds c t g m s b);
       refuses = λ b e. sym (if-true _ e refl);
     }
-  where
-    subst-builds : (b : List ℕ) → moved c t g b m s ≡ sent c t g b m s → Builds (length (datagramOf c g s)) b (sent c t g b m s)
-    subst-builds b e = rw (sym e) (moved-builds c t g m s b)

@@ -15,6 +15,7 @@ use Rattle.clock.specs.declared.rand.Rand.{Rand}
 use Rattle.clock.specs.declared.waits.Waits.{Waits}
 use Rattle.clock.proofs.MomentLaws.{plus-near}
 use Rattle.machine.specs.Polling.{decided, InRange}
+use Rattle.machine.specs.declared.poll.Sending.{Sending}
 use Rattle.machine.specs.declared.poll.Decision.{Decision}
 use Rattle.machine.proofs.Timers.{Timers, Shows, Ahead, ahead-near, soonest, soonest-ahead, wakeAt}
 use Rattle.machine.proofs.Decisions.{Decides, nothing, sending, decides}
@@ -61,12 +62,12 @@ module _ (w : Waits) (z : InRange w) (c : Client) (tb : Tables) (g : Rand) (t d 
   quiet-at u l b = poll-at u b ∙ quiet-by u (due-at u) (decides-at u (omega arith)) (omega arith) b
 
   -- at it a message is, unless it lies 24 hours on
-  sends-at : (d ≡ day → ⊥) → Sends c tb g (due-at d)
+  sends-at : (d ≡ day → ⊥) → (s : Sending) × Sends c tb g (due-at d) s
   sends-at f = by (due-at d) (decides-at d (omega arith))
     where
-      by : (k : Decision) → Decides (t + d) x k → Sends c tb g k
+      by : (k : Decision) → Decides (t + d) x k → (s : Sending) × Sends c tb g k s
       by k (nothing e a) = let q = soonest-ahead (t + d) x a in absurd (f (omega arith))
-      by k (sending {m} {s} x′ e go q a l) = sends-by c tb g (moment m) s
+      by k (sending {m} {s} x′ e go q a l) = (s, sends-by c tb g (moment m) s)
 
   -- polls before it, and polls at it that refuse, leave all as it is
   module _ (n : ℕ) (refuse : (b : List ℕ) → (Enough n b → ⊥) → polledBy c tb g b (due-at d) ≡ refusedBy c tb g b 8) where
@@ -128,21 +129,20 @@ module _ (w : Waits) (z : InRange w) (c : Client) (tb : Tables) (g : Rand) (t d 
         always (y ∷ ys) = omega arith
 
     owed : (d ≡ day → ⊥) → Owed (ours w) (c .settings .mtu) p d
-    owed f = by (sends-at f)
-      where
-        by : Sends c tb g (due-at d) → Owed (ours w) (c .settings .mtu) p d
-        by k =
-            let n = length (datagramOf c g (k .sending-is)) in
-            let v = datagram-fits c (all-parts c tb wh .0) g (k .sending-is) in
-            record {
-              n = n;
-              some = v .0;
-              most = v .1;
-              builds = λ es o y b e none enough.
-                  subst⁻¹ (λ (q : Post). Builds n b (polled-from q y b)) (after-is n (λ b f. k .refuses b (short-or-enough n b f)) es o (omega arith) none)
-                  (subst⁻¹ (Builds n b) (from-left (total es) y b ∙ ap (λ (v : ℕ). polled w c tb g (moment (wrap (t + v))) b) e ∙ poll-at d b)
-                  (k .builds b (enough-or-short n b enough)));
-            }
+    owed f =
+        let s = sends-at f .0 in
+        let k = sends-at f .1 in
+        let n = length (datagramOf c g s) in
+        let v = datagram-fits c (all-parts c tb wh .0) g s in
+        record {
+          n = n;
+          some = v .0;
+          most = v .1;
+          builds = λ es o y b e none enough.
+              subst⁻¹ (λ (q : Post). Builds n b (polled-from q y b)) (after-is n (λ b f. k .refuses b (short-or-enough n b f)) es o (omega arith) none)
+              (subst⁻¹ (Builds n b) (from-left (total es) y b ∙ ap (λ (v : ℕ). polled w c tb g (moment (wrap (t + v))) b) e ∙ poll-at d b)
+              (k .builds b (enough-or-short n b enough)));
+        }
 
     -- The waking moment is the latest that will do.
     pub wakes : 0 < d → Wakes (ours w) (c .settings .mtu) p d

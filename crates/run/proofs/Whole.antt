@@ -19,7 +19,7 @@ use Rattle.octets.specs.declared.number.MaybeNumber.the-variants.{None, Some}
 use Rattle.machine.specs.Polling.{following, InRange}
 use Rattle.machine.specs.declared.state.ClientState.the-variants.{Init}
 use Rattle.machine.proofs.Timers.{Timers, unset, Shows, init, Near, Ahead, soonest-ahead, wakeAt}
-use Rattle.tables.specs.Tables.{dhcpAddrs, dhcpRoutes}
+use Rattle.tables.specs.Tables.{dhcpAddrs, dhcpRoutes, wholeTables}
 use Rattle.tables.specs.declared.tables.Tables.{Tables}
 use Rattle.tables.specs.declared.manual.Outcome.{Outcome}
 use Rattle.tables.specs.declared.manual.Outcome.the-variants.{Done, Refused}
@@ -36,6 +36,7 @@ use Rattle.client.specs.declared.client.Created.{Created}
 use Rattle.client.specs.declared.poll.PollAnswer.{PollAnswer}
 use Rattle.client.specs.declared.poll.PollOutcome.{PollOutcome}
 use Rattle.client.specs.declared.poll.PollOutcome.the-variants as poll
+use Rattle.client.proofs.Wholes.{created-whole, all-whole}
 use Rattle.client.proofs.Effects.{gives}
 use Rattle.client.proofs.Polling.{moved-whole}
 use Rattle.run.specs.Calls.{Call, Poll, Reply, Reset, ByHand, LookUp, ours}
@@ -44,6 +45,7 @@ use Rattle.run.specs.declared.post.Post.{Post}
 use Rattle.run.proofs.Polls.{Outcome as Polls-to, refuses, idles, moves, outcome}
 use Rattle.run.proofs.Invariant.{Timing, in-time, late, timing, lease-is, fitting, lost-none, Inv, inv-later, poll-step, reply-step, reset-step, hand-step}
 use Rattle.run.proofs.Waking.{wakes}
+use Rattle.run.proofs.Open.{Sound, open-from}
 
 -- AFTER A POLL THAT WAS NOT REFUSED, at t
 record Rested (t : ℕ) (c : Client) (tb : Tables) (a : PollAnswer) : Type 0 where
@@ -188,17 +190,21 @@ module _ (w : Waits) (z : InRange w) where
         )
 
 -- A FRESH CLIENT
-created-fresh : (s : Settings) (ignoring : Bool) → created s ignoring .outcome ≡ Done → created s ignoring .client ≡ fresh s ignoring
-unfolding created
-created-fresh s ignoring = by (refusalOf s)
-  where
-    isDone : Outcome → Bool
-    isDone Done = true
-    isDone (Refused n) = false
+abbrev isDone : Outcome → Bool
+isDone Done = true
+isDone (Refused n) = false
 
-    by : (m : MaybeNumber) → createdOr m s ignoring .outcome ≡ Done → createdOr m s ignoring .client ≡ fresh s ignoring
+created-none : (s : Settings) (ignoring : Bool) → created s ignoring .outcome ≡ Done → refusalOf s ≡ None
+unfolding created
+created-none s ignoring = by (refusalOf s)
+  where
+    by : (m : MaybeNumber) → createdOr m s ignoring .outcome ≡ Done → m ≡ None
     by None e = refl
     by (Some n) e = absurd (false≢true (ap isDone e))
+
+created-fresh : (s : Settings) (ignoring : Bool) → created s ignoring .outcome ≡ Done → created s ignoring .client ≡ fresh s ignoring
+unfolding created
+created-fresh s ignoring e = ap (λ (m : MaybeNumber). createdOr m s ignoring .client) (created-none s ignoring e)
 
 gives-nothing : (s : Settings) (ignoring : Bool) → gives (fresh s ignoring) ≡ nothing
 unfolding heldBy
@@ -229,3 +235,36 @@ pub owed : (w : Waits) → InRange w → (s : Settings) (ignoring : Bool) → cr
 owed w z s ignoring e t a r rand m es h =
     owed-from w z s es (start (created s ignoring .client) t rand m) never
     (subst⁻¹ (λ (c : Client). RunInv w z s never (start c t rand m)) (created-fresh s ignoring e) (fresh-inv w z s ignoring t a r rand m)) h
+
+fresh-sound : (w : Waits) (s : Settings) (ignoring : Bool) → created s ignoring .outcome ≡ Done → (t : Tables) → wholeTables t ≡ true → (rand : Rand) (m : ℕ)
+    → Sound w s (start (created s ignoring .client) t rand m .post)
+fresh-sound w s ignoring e t h rand m =
+    record {
+      whole = all-whole (created s ignoring .client) t (created-whole s ignoring (created-none s ignoring e)) h;
+      settings-are = ap (λ (c : Client). c .settings) (created-fresh s ignoring e);
+    }
+
+-- DEMAND 3, with the waits as variables within request (g)'s ranges, and with document 01's own.
+pub demand3 : (w : Waits) → InRange w → Demand3 (ours w)
+demand3 w z =
+    record {
+      owed = owed w z;
+      no-lockout = λ s ignoring e t h rand m es. open-from w s es (start (created s ignoring .client) t rand m) (fresh-sound w s ignoring e t h rand m);
+    }
+
+standard-in-range : InRange standardWaits
+unfolding standardWaits
+standard-in-range =
+    record {
+      discover-least = omega arith;
+      discover-most = omega arith;
+      request-least = omega arith;
+      request-most = omega arith;
+      tries-least = omega arith;
+      tries-most = omega arith;
+      renew-least = omega arith;
+      renew-most = omega arith;
+    }
+
+pub demand3-standard : Demand3 (ours standardWaits)
+demand3-standard = demand3 standardWaits standard-in-range

@@ -3,7 +3,7 @@
 -- calls meet it is proved in proofs/Whole.antt, and that wrong ones don't in proofs/Refuted.antt.
 use Prim.Native.Nat.{ℕ, _+_, _-_, _≤_, _<_}
 use mathlib.Core.Path.{_≡_}
-use mathlib.Core.Bool.{Bool, true, false}
+use mathlib.Core.Bool.{Bool, true, false, not}
 use mathlib.Core.List.{List, [], _∷_}
 use lib.ListN.{length}
 use lib.Dec.{leb, eqb}
@@ -390,7 +390,7 @@ prefixIn (DropRoute network prefix router) = prefix
 abbrev pub badRouter : Manual → Bool
 badRouter (AddAddress address prefix) = false
 badRouter (DropAddress address prefix) = false
-badRouter (AddRoute network prefix router) = if unicast router then false else true
+badRouter (AddRoute network prefix router) = not (unicast router)
 badRouter (DropRoute network prefix router) = false
 
 abbrev pub noRoom : Manual → Tables → Bool
