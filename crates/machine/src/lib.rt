@@ -1,5 +1,5 @@
 // The client's states and timers, by value and without arrays: which state awaits which reply, how long a lease is, when
-// it is renewed, rebound and over. Ports that part of iface/dhcpv4.rs.
+// it is renewed, rebound and over, what a poll sends and when the next is wanted. Ports that part of iface/dhcpv4.rs.
 //
 // No function of this crate refuses anything: every value of its types has an answer, also one that no reply gives.
 

@@ -125,11 +125,11 @@ impl Row {
     }
 }
 
-fn half(lease: Duration) -> Duration
-    ensures { λ r. ⌜ r ≡ duration (lease .millis / 2) ⌝ }
+pub(crate) fn half(time: Duration) -> Duration
+    ensures { λ r. ⌜ r ≡ duration (time .millis / 2) ⌝ }
 {
     Duration {
-        millis: lease.millis / 2,
+        millis: time.millis / 2,
     }
 }
 
