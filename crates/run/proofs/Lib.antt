@@ -1,4 +1,5 @@
 pub mod Polls
+pub mod Built
 pub mod Invariant
 pub mod Waking
 pub mod Open

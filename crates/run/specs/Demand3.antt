@@ -1,7 +1,7 @@
 -- Demand 3, as document 01 reads it in "The run in demand 3": one claim about every list of calls from a fresh client, of any
 -- set of calls. What stands in quotes is document 01's, or the owner's. `Demand3`, the last definition, is the claim; that our
 -- calls meet it is proved in proofs/Whole.antt, and that wrong ones don't in proofs/Refuted.antt.
-use Prim.Native.Nat.{ℕ, _+_, _-_, _≤_, _<_}
+use Prim.Native.Nat.{ℕ, _+_, _-_, _^_, _≤_, _<_}
 use mathlib.Core.Path.{_≡_}
 use mathlib.Core.Bool.{Bool, true, false, not}
 use mathlib.Core.List.{List, [], _∷_}
@@ -245,7 +245,7 @@ isPolled (Cleared ∷ vs) = isPolled vs
 
 abbrev pub inTime : Bool → Since → Type 0
 inTime true never = Unit {0}
-inTime true (since millis) = millis ≤ 1073741824
+inTime true (since millis) = millis ≤ 2 ^ 30
 inTime false gap = Unit {0}
 
 abbrev pub counted : Bool → Since → Since
