@@ -4,3 +4,6 @@ pub mod Invariant
 pub mod Waking
 pub mod Open
 pub mod Whole
+pub mod Sample
+pub mod Refuted
+pub mod Examples

@@ -17,7 +17,7 @@ use Rattle.tables.specs.Applied.{applied}
 use Rattle.tables.specs.declared.tables.Tables.{Tables}
 use Rattle.client.specs.Leases.{installed, nothing}
 use Rattle.client.specs.Taken.{holds, processed}
-use Rattle.client.specs.Polls.{PolledInto, refusedBy, tooShort, polled}
+use Rattle.client.specs.Polls.{PolledInto, refusedBy, passedBy, tooShort, polled}
 use Rattle.client.specs.declared.client.Client.{Client}
 use Rattle.client.specs.declared.poll.PollOutcome.{PollOutcome}
 use Rattle.client.specs.declared.poll.PollOutcome.the-variants.{Answered, Refused}
@@ -109,3 +109,16 @@ processedAgain c t source bytes now =
 
 abbrev pub entering : Waits → Calls
 entering w = taking w processedAgain
+
+-- Wakes every millisecond.
+abbrev pub restless : Waits → Calls
+restless w = polling w (λ c t g now buffer. wakingAt (moment (plus (now .millis) 1)) (polled w c t g now buffer))
+
+-- Keeps a lease for ever, and does nothing while it has one.
+unfoldable pub keeping : Waits → Client → Tables → Rand → Instant → List ℕ → PolledInto
+keeping w c t g now buffer =
+    if hasLease (c .state) then passedBy c t g buffer (moment (plus (now .millis) day))
+    else polled w c t g now buffer
+
+abbrev pub clinging : Waits → Calls
+clinging w = polling w (keeping w)
