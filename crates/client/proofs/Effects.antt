@@ -8,11 +8,10 @@ use Rattle.clock.specs.Choice.{if_then_else_}
 use Rattle.clock.proofs.Choices.{if-true, if-false, if-cases, both-true}
 use Rattle.clock.specs.declared.instant.Instant.{Instant}
 use Rattle.clock.specs.declared.rand.Rand.{Rand}
-use Rattle.octets.specs.declared.number.MaybeNumber.the-variants.{None, Some}
+use Rattle.octets.specs.declared.number.MaybeNumber.the-variants.{Some}
 use Rattle.wire.specs.Readings.{messageType, router}
 use Rattle.wire.specs.Stored.{sameOptions}
 use Rattle.machine.specs.States.{hasLease, offer, ack, nak, requesting}
-use Rattle.machine.specs.Polling.{following}
 use Rattle.machine.specs.declared.state.ClientState.{ClientState}
 use Rattle.machine.specs.declared.state.ClientState.the-variants.{Init, Discovering, Requesting, Renewing}
 use Rattle.machine.specs.declared.state.DhcpServerInfo.{DhcpServerInfo}
@@ -25,12 +24,12 @@ use Rattle.tables.specs.declared.tables.Tables.{Tables}
 use Rattle.tables.specs.declared.apply.MaybeCidr.the-variants.{Cidr}
 use Rattle.tables.specs.declared.apply.Installed.{Installed}
 use Rattle.tables.proofs.Origins.{own-addrs-applied, own-routes-applied, same-cidr, same-cidr-self, same-router, same-router-self}
-use Rattle.client.specs.Leases.{noLease, leaseOf, sameTerms, sameAddresses, sameLease, installed, nothing}
-use Rattle.client.specs.Clients.{withLease, inState}
-use Rattle.client.specs.Resets.{wholeAll, restarted, dropped, cleared, wasReset}
+use Rattle.client.specs.Leases.{noLease, sameTerms, sameAddresses, sameLease, installed, nothing}
+use Rattle.client.specs.Clients.{inState}
+use Rattle.client.specs.Resets.{wholeAll, cleared, wasReset}
 use Rattle.client.specs.Judged.{recipientOf, judged}
-use Rattle.client.specs.Taken.{serverOf, holds, heldBy, boundBy, ackLease, ackedAs, acked, entered, replied, processed}
-use Rattle.client.specs.Polls.{kept, madeReady, awaiting, moved}
+use Rattle.client.specs.Taken.{holds, heldBy, boundBy, ackLease, ackedAs, acked, entered, replied, processed}
+use Rattle.client.specs.Polls.{moved}
 use Rattle.client.specs.declared.settings.Settings.{Settings}
 use Rattle.client.specs.declared.lease.DhcpLease.{DhcpLease}
 use Rattle.client.specs.declared.client.Client.{Client}

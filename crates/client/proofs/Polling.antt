@@ -1,13 +1,12 @@
 -- A poll's message is no longer than the MTU allows, and a whole client stays whole under it. Assumes nothing.
-use Prim.Native.Nat.{ℕ, _+_, _-_, _≤_, _<_}
-use mathlib.Core.Path.{_≡_, refl, ap, _∙_}
-use mathlib.Core.Bool.{Bool, true, false, not}
-use mathlib.Core.List.{List, [], _∷_}
+use Prim.Native.Nat.{ℕ, _-_, _≤_, _<_}
+use mathlib.Core.Path.{_≡_, refl, _∙_}
+use mathlib.Core.Bool.{true, not}
+use mathlib.Core.List.{List}
 use native.Mathlib.Omega.{arith}
 use lib.ListN.{length, length-append}
 use lib.Dec.{ltb}
 use borrow.Author.Tests.{ltb-false}
-use Rattle.clock.specs.Choice.{if_then_else_}
 use Rattle.clock.proofs.Choices.{if-true, if-cases}
 use Rattle.clock.specs.declared.instant.Instant.{Instant}
 use Rattle.clock.specs.declared.rand.Rand.{Rand}
@@ -19,18 +18,16 @@ use Rattle.message.specs.Written.{nameLimit, extraLimit, listFits}
 use Rattle.message.proofs.Messages.{address-most}
 use Rattle.message.proofs.Datagrams.{datagram-length}
 use Rattle.machine.specs.States.{hasLease}
-use Rattle.machine.specs.declared.state.ClientState.{ClientState}
-use Rattle.machine.specs.declared.state.ClientState.the-variants.{Init, Discovering, Requesting, Renewing}
+use Rattle.machine.specs.declared.state.ClientState.the-variants.{Discovering, Requesting, Renewing}
 use Rattle.machine.specs.declared.poll.Sending.{Sending}
 use Rattle.machine.specs.declared.poll.Sending.the-variants.{Discover, Request, Renew}
 use Rattle.tables.specs.declared.tables.Tables.{Tables}
-use Rattle.client.specs.Settings.{nameOf, listOf, extraOf, messageOf, request, longest, longestLength, overCap, isEthernet, sizeRefusal, listsRefusal, refusalOf}
+use Rattle.client.specs.Settings.{extraOf, messageOf, request, longest, longestLength, overCap, isEthernet, sizeRefusal, listsRefusal, refusalOf}
 use Rattle.client.specs.Leases.{wholeLease}
 use Rattle.client.specs.Clients.{leaseFits, wholeClient}
 use Rattle.client.specs.Resets.{wholeAll, cleared}
-use Rattle.client.specs.Polls.{discover, unspecified, idOf, fieldsOf, routeOf, bodyOf, datagramOf, awaiting, moved}
+use Rattle.client.specs.Polls.{discover, unspecified, idOf, routeOf, bodyOf, datagramOf, awaiting, moved}
 use Rattle.client.specs.declared.settings.Settings.{Settings}
-use Rattle.client.specs.declared.lease.DhcpLease.{DhcpLease}
 use Rattle.client.specs.declared.client.Client.{Client}
 use Rattle.client.proofs.Wholes.{settings-whole, lease-fits, unread-fits, read-fits, parts-whole, all-whole, all-parts, cleared-whole}
 use Rattle.client.proofs.Effects.{Fitting}

@@ -1,11 +1,10 @@
 -- What the verdict on a reply tells of its bytes and of the client's state. Assumes nothing.
 use Prim.Native.Nat.{ℕ}
-use mathlib.Core.Path.{_≡_, refl, ap}
+use mathlib.Core.Path.{_≡_, refl}
 use mathlib.Core.Bool.{Bool, true, false, not}
 use mathlib.Core.List.{List}
 use lib.Dec.{eqb}
 use borrow.Author.Tests.{eqb-true}
-use Rattle.clock.specs.Choice.{if_then_else_}
 use Rattle.clock.proofs.Choices.{if-cases}
 use Rattle.octets.specs.Addresses.{unicast, prefixLen}
 use Rattle.octets.specs.declared.number.MaybeNumber.{MaybeNumber}

@@ -20,7 +20,7 @@ use Rattle.wire.specs.declared.reply.Checked.the-variants as check
 use Rattle.wire.proofs.Stores.{store-sound}
 use Rattle.machine.specs.States.{hasLease, awaited}
 use Rattle.machine.specs.declared.state.ClientState.{ClientState}
-use Rattle.machine.specs.declared.state.ClientState.the-variants.{Init, Discovering, Requesting, Renewing}
+use Rattle.machine.specs.declared.state.ClientState.the-variants.{Init}
 use Rattle.machine.specs.declared.state.DhcpServerInfo.{DhcpServerInfo}
 use Rattle.machine.specs.declared.state.Awaited.{Awaited}
 use Rattle.machine.specs.declared.state.Awaited.the-variants as awaits

@@ -29,7 +29,6 @@ use Rattle.client.specs.Resets.{wholeAll, cleared}
 use Rattle.client.specs.declared.client.Client.{Client}
 use Rattle.client.specs.declared.reset.Settled.{Settled}
 use Rattle.client.specs.declared.poll.PollAnswer.{PollAnswer}
-use Rattle.client.specs.declared.poll.PollOutcome.{PollOutcome}
 use Rattle.client.specs.declared.poll.PollOutcome.the-variants.{Answered, Refused}
 use Rattle.client.specs.declared.poll.Polled.{Polled}
 

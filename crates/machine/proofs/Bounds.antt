@@ -12,7 +12,6 @@ use Rattle.octets.specs.declared.number.MaybeNumber.{MaybeNumber}
 use Rattle.octets.specs.declared.number.MaybeNumber.the-variants.{None, Some}
 use Rattle.machine.specs.Times.{leaseTime, rowOf, bothRow, renewAfter, rebindAfter}
 use Rattle.machine.specs.declared.times.Row.{Row}
-use Rattle.machine.specs.declared.times.Row.the-variants.{Both, OnlyRenew, OnlyRebind, Neither}
 
 pub lease-most : (said : MaybeNumber) (maximum : MaybeDuration) → leaseTime said maximum ≤ longest
 unfolding leaseTime

@@ -1,23 +1,21 @@
 -- What a poll decides, on time that never wraps: where all open deadlines are near, nothing is due before the first of them,
 -- and a message is from there on; after it every open deadline lies ahead. Assumes nothing.
-use Prim.Native.Nat.{ℕ, suc, _+_, _-_, _*_, _/_, _^_, _≤_, _<_, min, max}
+use Prim.Native.Nat.{ℕ, _+_, _-_, _*_, _/_, _^_, _≤_, _<_, min, max}
 use mathlib.Core.Path.{_≡_, refl, sym, ap, _∙_}
 use mathlib.Core.Bool.{Bool, true, false, not, false≢true}
-use mathlib.Core.List.{List, [], _∷_}
+use mathlib.Core.List.{[], _∷_}
 use native.Mathlib.Omega.{arith}
 use native.Mathlib.Nat.{pow-le-pow-right, mul-le-mul}
-use lib.Dec.{leb, ltb}
-use borrow.Author.Tests.{leb-true, leb-false, ltb-true, ltb-false, not-true, not-false}
-use Rattle.clock.specs.Choice.{if_then_else_}
+use lib.Dec.{leb}
+use borrow.Author.Tests.{leb-true, leb-false, ltb-true, not-true, not-false}
 use Rattle.clock.specs.Durations.{longest, clamp}
-use Rattle.clock.specs.Moments.{wrap, plus, before, due, rest, earlier, moment}
+use Rattle.clock.specs.Moments.{wrap, before, due, rest, earlier, moment}
 use Rattle.clock.specs.Clocks.{day}
 use Rattle.clock.specs.declared.waits.Waits.{Waits}
 use Rattle.clock.proofs.Choices.{if-true, if-false, if-cases}
 use Rattle.clock.proofs.MomentLaws.{plus-near, before-near, due-near, rest-near, earlier-near}
-use Rattle.machine.specs.Polling.{waking, waits, sends, discovering, discovers, decidedDiscovering, requestWait, requested, decidedRequesting, retryAt, rebinds, renewWait, renewed, rebindWait, rebound, decidedRenewing, decided, following, InRange}
+use Rattle.machine.specs.Polling.{waking, waits, sends, discovers, decidedDiscovering, requestWait, requested, decidedRequesting, retryAt, rebinds, renewWait, renewed, rebindWait, rebound, decidedRenewing, decided, following, InRange}
 use Rattle.machine.specs.declared.state.ClientState.{ClientState}
-use Rattle.machine.specs.declared.state.ClientState.the-variants.{Init, Discovering, Requesting, Renewing}
 use Rattle.machine.specs.declared.state.DiscoverState.{DiscoverState}
 use Rattle.machine.specs.declared.state.RequestState.{RequestState}
 use Rattle.machine.specs.declared.state.RenewState.{RenewState}
@@ -25,7 +23,7 @@ use Rattle.machine.specs.declared.poll.Sending.{Sending}
 use Rattle.machine.specs.declared.poll.Sending.the-variants as message
 use Rattle.machine.specs.declared.poll.Due.the-variants.{Nothing, Send}
 use Rattle.machine.specs.declared.poll.Decision.{Decision}
-use Rattle.machine.proofs.Timers.{Timers, unset, single, leased, Shows, init, discovering as discovering-shows, requesting as requesting-shows, renewing as renewing-shows, Dated, Near, Ahead, soonest, wakeAt}
+use Rattle.machine.proofs.Timers.{Timers, unset, single, leased, Shows, init, discovering as discovering-shows, requesting as requesting-shows, renewing as renewing-shows, Near, Ahead, soonest, wakeAt}
 
 -- no lease, or one that is over
 abbrev pub Over : ℕ → Timers → Type 0

@@ -17,7 +17,6 @@ use Rattle.machine.specs.declared.state.RequestState.{RequestState}
 use Rattle.machine.specs.declared.state.RenewState.{RenewState}
 use Rattle.machine.specs.declared.poll.Sending.{Sending}
 use Rattle.machine.specs.declared.poll.Sending.the-variants.{Discover, Request, Renew}
-use Rattle.machine.specs.declared.poll.Due.{Due}
 use Rattle.machine.specs.declared.poll.Due.the-variants.{Nothing, Send}
 use Rattle.machine.specs.declared.poll.Decision.{Decision}
 

@@ -2,7 +2,7 @@
 -- it. Assumes nothing.
 use Prim.Native.Nat.{ℕ, _<_}
 use mathlib.Core.Path.{_≡_, refl, sym, ap}
-use mathlib.Core.Bool.{Bool, true, false, not, false≢true}
+use mathlib.Core.Bool.{not, false≢true}
 use mathlib.Core.List.{List, [], _∷_}
 use native.Mathlib.Omega.{arith}
 use lib.ListN.{length}
@@ -20,8 +20,8 @@ use Rattle.client.specs.Resets.{wholeAll}
 use Rattle.client.specs.Polls.{PolledInto, datagramOf, refusedBy, moved, polledAs, polled}
 use Rattle.client.specs.declared.client.Client.{Client}
 use Rattle.client.specs.declared.poll.PollAnswer.{PollAnswer}
-use Rattle.client.specs.declared.poll.PollOutcome.{PollOutcome}
-use Rattle.client.specs.declared.poll.PollOutcome.the-variants.{Answered, Refused}
+use Rattle.client.specs.declared.poll.PollOutcome.the-variants.{Answered}
+use Rattle.run.proofs.Answers.{isAnswered, lengthOf}
 use Rattle.run.proofs.Polls.{sent-cases}
 
 -- The datagram that is due, if one is.
@@ -32,14 +32,6 @@ datagramDue c g (Send s) = datagramOf c g s
 -- A poll that answers a length above 0 answers that datagram's, and leaves the buffer with it in front.
 abbrev pub BuildsDue : List ℕ → List ℕ → PolledInto → Type 0
 BuildsDue out b r = (a : PollAnswer) → r .polled .outcome ≡ Answered a → 0 < a .length → (a .length ≡ length out) × (r .buffer ≡ over out b)
-
-abbrev isAnswered : PollOutcome → Bool
-isAnswered (Answered a) = true
-isAnswered (Refused n) = false
-
-abbrev lengthOf : PollOutcome → ℕ
-lengthOf (Answered a) = a .length
-lengthOf (Refused n) = 0
 
 refused-builds : (c : Client) (t : Tables) (g : Rand) (b out : List ℕ) (n : ℕ) → BuildsDue out b (refusedBy c t g b n)
 refused-builds c t g b out n a e l = absurd (false≢true (ap isAnswered e))

@@ -1,15 +1,14 @@
 -- What holds all along a run of our calls: deadlines on time that never wraps, and that history, lease and tables agree with
 -- them. Assumes nothing.
-use Prim.Native.Nat.{ℕ, _+_, _-_, _≤_, _<_}
+use Prim.Native.Nat.{ℕ, _+_, _≤_, _<_}
 use mathlib.Core.Path.{_≡_, refl, sym, ap, _∙_, subst, subst⁻¹}
-use mathlib.Core.Bool.{Bool, true, false, not, false≢true}
+use mathlib.Core.Bool.{Bool, true, false, false≢true}
 use mathlib.Core.List.{List, [], _∷_}
 use native.Mathlib.Omega.{arith}
 use native.Mathlib.Decide.{decLe}
-use lib.Dec.{leb}
 use borrow.Author.Tests.{le-leb, lt-leb}
 use Rattle.clock.specs.Choice.{if_then_else_}
-use Rattle.clock.specs.Durations.{longest, duration}
+use Rattle.clock.specs.Durations.{longest}
 use Rattle.clock.specs.Moments.{wrap, moment}
 use Rattle.clock.specs.declared.instant.Instant.{Instant}
 use Rattle.clock.specs.declared.rand.Rand.{Rand}
@@ -27,7 +26,6 @@ use Rattle.machine.specs.Polling.{following, InRange}
 use Rattle.machine.specs.declared.state.ClientState.{ClientState}
 use Rattle.machine.specs.declared.state.ClientState.the-variants.{Init, Discovering, Requesting, Renewing}
 use Rattle.machine.specs.declared.poll.Sending.{Sending}
-use Rattle.machine.specs.declared.poll.Sending.the-variants as message
 use Rattle.machine.proofs.Timers.{Timers, unset, single, leased, Shows, init, discovering, requesting as requesting-shows, renewing, Dated, dated-later, Near, dated-near, Ahead, ahead-dated}
 use Rattle.machine.proofs.Decisions.{Over, Goes, discovers-from, requests-again, renews}
 use Rattle.machine.proofs.Bounds.{lease-most, row-nearer}
@@ -37,21 +35,19 @@ use Rattle.tables.specs.declared.address.IfaceAddr.{IfaceAddr}
 use Rattle.tables.specs.declared.address.AddrTable.{AddrTable}
 use Rattle.tables.specs.declared.route.Route.{Route}
 use Rattle.tables.specs.declared.route.RouteTable.{RouteTable}
-use Rattle.tables.specs.Applied.{sameCidr, sameRouter, leasedAddrs, defaultRoute, leasedRoutes}
+use Rattle.tables.specs.Applied.{sameCidr, sameRouter, leasedAddrs, leasedRoutes}
 use Rattle.tables.specs.declared.tables.Tables.{Tables}
 use Rattle.tables.specs.declared.apply.MaybeCidr.{MaybeCidr}
 use Rattle.tables.specs.declared.apply.MaybeCidr.the-variants.{Absent, Cidr}
 use Rattle.tables.specs.declared.apply.Installed.{Installed}
-use Rattle.tables.specs.declared.manual.Changed.{Changed}
 use Rattle.tables.proofs.Origins.{same-cidr, same-cidr-self, same-router, same-router-self}
 use Rattle.tables.proofs.ByHand.{add-address-law, drop-address-law, add-route-law, drop-route-law}
 use Rattle.client.specs.Settings.{maximumOf}
 use Rattle.client.specs.Leases.{nothing}
-use Rattle.client.specs.Judged.{maskCode}
 use Rattle.client.specs.Resets.{wasReset}
 use Rattle.client.specs.Taken.{leaseTimeCode, renewalCode, rebindingCode, replyLease, replyRow, boundBy, processed}
 use Rattle.client.specs.Taken as taken
-use Rattle.client.specs.Polls.{PolledInto, refusedBy, passedBy, moved, polled}
+use Rattle.client.specs.Polls.{PolledInto, moved, polled}
 use Rattle.client.specs.declared.settings.Settings.{Settings}
 use Rattle.client.specs.declared.client.Client.{Client}
 use Rattle.client.specs.declared.process.Processed.{Processed}
@@ -60,11 +56,10 @@ use Rattle.client.specs.declared.process.ReplyOutcome.the-variants as reply
 use Rattle.client.specs.declared.reset.ResetOutcome.{ResetOutcome}
 use Rattle.client.specs.declared.reset.ResetOutcome.the-variants as reset
 use Rattle.client.proofs.Unchanged.{wasTaken, wasMade, refused-kept}
-use Rattle.client.proofs.Verdicts.{Reads, begun}
+use Rattle.client.proofs.Verdicts.{begun}
 use Rattle.client.proofs.Effects.{Entered, gives, Settles, reset-settles, reset-clears, Given, Became, unmoved, offered, was-acked, was-cleared, reply-effect, Fitting, moved-settles}
-use Rattle.run.specs.Calls.{Manual, AddAddress, DropAddress, AddRoute, DropRoute, Query, Call, Poll, Reply, Reset, ByHand, LookUp, Calls, changedBy, ours}
-use Rattle.run.specs.Demand3.{Told, OfPoll, OfReply, OfReset, OfOther, told, called, prefixBy, cidrOf, givenBy, Event, Polled, Acked, Cleared, acceptedAs, accepted, events, History, NoAck, Held, older, expired, notedAll, isHeld, heldBy, Lost, lostBy, lostAll, Since, never, since, later, isPolled, inTime, counted, unlessLost, routesBy}
-use Rattle.run.specs.declared.post.Post.{Post}
+use Rattle.run.specs.Calls.{Manual, AddAddress, DropAddress, AddRoute, DropRoute, changedBy}
+use Rattle.run.specs.Demand3.{OfPoll, OfReply, OfReset, givenBy, Event, Acked, Cleared, acceptedAs, accepted, events, History, NoAck, Held, older, expired, notedAll, isHeld, heldBy, Lost, lostBy, lostAll, Since, never, since, later, isPolled, inTime, counted, unlessLost, routesBy}
 use Rattle.run.proofs.Polls.{polled-cases, Outcome, refuses, idles, moves, outcome}
 
 -- HISTORY AND DEADLINES

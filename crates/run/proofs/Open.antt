@@ -1,18 +1,16 @@
 -- From whole tables no call locks a client out: what is refused, is refused for its own arguments. Assumes nothing.
-use Prim.Native.Nat.{ℕ, _+_, _-_, _≤_, _<_}
+use Prim.Native.Nat.{ℕ, _-_, _≤_}
 use mathlib.Core.Path.{_≡_, refl, sym, ap, _∙_, subst, subst⁻¹}
 use mathlib.Core.Bool.{Bool, true, false, not, false≢true}
 use mathlib.Core.List.{List, [], _∷_}
-use native.Mathlib.Omega.{arith}
 use lib.ListN.{length}
 use lib.Dec.{leb}
-use borrow.Author.Tests.{not-true, not-false}
-use Rattle.clock.specs.Choice.{if_then_else_}
+use borrow.Author.Tests.{not-true}
 use Rattle.clock.specs.Moments.{due}
 use Rattle.clock.specs.declared.instant.Instant.{Instant}
 use Rattle.clock.specs.declared.rand.Rand.{Rand}
 use Rattle.clock.specs.declared.waits.Waits.{Waits}
-use Rattle.clock.proofs.Choices.{if-true, if-false, if-cases}
+use Rattle.clock.proofs.Choices.{if-true, if-cases}
 use Rattle.octets.specs.Addresses.{unicast}
 use Rattle.machine.specs.States.{hasLease}
 use Rattle.machine.specs.Polling.{decidedDiscovering, decidedRequesting, retryAt, rebinds, decidedRenewing, decided}
@@ -30,23 +28,20 @@ use Rattle.tables.specs.declared.manual.Outcome.{Outcome}
 use Rattle.tables.specs.declared.manual.Outcome.the-variants.{Done, Refused}
 use Rattle.tables.specs.declared.manual.Changed.{Changed}
 use Rattle.tables.proofs.ByHand.{add-address-law, drop-address-law, add-route-law, drop-route-law}
-use Rattle.client.specs.Resets.{wholeAll, wasReset}
-use Rattle.client.specs.Taken.{processed}
-use Rattle.client.specs.Polls.{PolledInto, datagramOf, refusedBy, tooShort, polledAs, polledBy, polled}
+use Rattle.client.specs.Resets.{wholeAll}
+use Rattle.client.specs.Polls.{PolledInto, datagramOf, tooShort, polledAs, polledBy, polled}
 use Rattle.client.specs.declared.settings.Settings.{Settings}
 use Rattle.client.specs.declared.client.Client.{Client}
-use Rattle.client.specs.declared.poll.PollOutcome.{PollOutcome}
 use Rattle.client.specs.declared.poll.PollOutcome.the-variants as poll
-use Rattle.client.specs.declared.reset.ResetOutcome.{ResetOutcome}
-use Rattle.client.specs.declared.reset.ResetOutcome.the-variants as reset
 use Rattle.client.proofs.Wholes.{all-parts, all-whole, processed-whole, reset-whole}
 use Rattle.client.proofs.Unchanged.{wasMade, reply-answered, reset-made}
 use Rattle.client.proofs.Effects.{Fitting, reply-effect, reset-settles, moved-settles}
 use Rattle.client.proofs.Polling.{datagram-fits, moved-whole}
 use Rattle.run.specs.Calls.{Manual, AddAddress, DropAddress, AddRoute, DropRoute, Call, Poll, Reply, Reset, ByHand, LookUp, changedBy, ours}
-use Rattle.run.specs.Demand3.{Entry, momentAfter, called, next, Run, Throughout, Enough, Builds, TooShort, Justly, prefix-over, router-bad, table-full, Open, OpenTo}
+use Rattle.run.specs.Demand3.{Entry, momentAfter, called, next, Run, Throughout, Enough, Builds, Justly, prefix-over, router-bad, table-full, Open, OpenTo}
 use Rattle.run.specs.declared.post.Post.{Post}
-use Rattle.run.proofs.Polls.{sent-cases, polled-whole, enough-or-short, short-lent, Sends, sends-by}
+use Rattle.run.proofs.Answers.{isAnswered, numberOf}
+use Rattle.run.proofs.Polls.{sent-cases, polled-whole, enough-or-short, short-lent, sends-by}
 
 -- A POLL
 
@@ -70,14 +65,6 @@ module _ (c : Client) (w : Waits) (m : ℕ) where
       if-cases Fits (due (s .«expires_at» .millis) m) (λ f. tt)
       (λ f. if-cases Fits (not (due (retryAt s) m)) (λ k. tt)
       (λ k. if-cases Fits (rebinds s m) (λ l. ap hasLease e) (λ l. ap hasLease e)))
-
-abbrev isRefused : PollOutcome → Bool
-isRefused (poll.Answered a) = false
-isRefused (poll.Refused n) = true
-
-abbrev numberOf : PollOutcome → ℕ
-numberOf (poll.Answered a) = 0
-numberOf (poll.Refused n) = n
 
 enough-for : (n : ℕ) (b : List ℕ) → n ≤ length b → Enough n b
 enough-for n [] h = tt
@@ -117,10 +104,10 @@ module _ (w : Waits) (c : Client) (tb : Tables) (g : Rand) (now : Instant) (wh :
         }
     by-sends s m q f false t =
         let n = sends-by c tb g m s .builds b t in
-        absurd (false≢true (ap isRefused (sym (n .answered) ∙ f)))
+        absurd (false≢true (sym (ap isAnswered (sym (n .answered) ∙ f))))
 
     by-due : (d : Due) (m : Instant) → decided w (c .state) (now .millis) ≡ record { due = d; wake = m } → polledAs c tb g b m d .polled .outcome ≡ poll.Refused k → Refusal b k
-    by-due Nothing m q f = absurd (false≢true (ap isRefused f))
+    by-due Nothing m q f = absurd (false≢true (sym (ap isAnswered f)))
     by-due (Send s) m q f = by-sends s m q f (tooShort b (length (datagramOf c g s))) refl
 
     refusal : polled w c tb g now b .polled .outcome ≡ poll.Refused k → Refusal b k

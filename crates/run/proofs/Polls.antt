@@ -1,13 +1,12 @@
 -- Our poll, sorted by its outcome: on time that never wraps where all open deadlines are near, and at any time. Assumes nothing.
-use Prim.Native.Nat.{ℕ, _-_, _≤_, _<_}
+use Prim.Native.Nat.{ℕ, _≤_, _<_}
 use mathlib.Core.Path.{_≡_, refl, sym, ap, subst}
 use mathlib.Core.Bool.{Bool, true, false, not, false≢true}
 use mathlib.Core.List.{List, [], _∷_}
 use native.Mathlib.Omega.{arith}
 use lib.ListN.{length}
 use lib.Dec.{ltb}
-use borrow.Author.Tests.{ltb-true, ltb-false, lt-ltb, le-ltb, not-true, not-false}
-use Rattle.clock.specs.Choice.{if_then_else_}
+use borrow.Author.Tests.{ltb-true, ltb-false, le-ltb, not-false}
 use Rattle.clock.specs.Moments.{wrap, moment}
 use Rattle.clock.specs.declared.instant.Instant.{Instant}
 use Rattle.clock.specs.declared.rand.Rand.{Rand}
@@ -24,8 +23,7 @@ use Rattle.tables.specs.declared.tables.Tables.{Tables}
 use Rattle.client.specs.Resets.{wholeAll}
 use Rattle.client.specs.Polls.{PolledInto, datagramOf, refusedBy, passedBy, moved, tooShort, sent, polledAs, polledBy, polled}
 use Rattle.client.specs.declared.client.Client.{Client}
-use Rattle.client.specs.declared.poll.PollOutcome.the-variants as poll
-use Rattle.run.specs.Demand3.{Enough, lengthIn, Builds}
+use Rattle.run.specs.Demand3.{Enough, Builds}
 
 module _ (c : Client) (t : Tables) (g : Rand) (b : List ℕ) where
   -- what holds of a refusal, of a poll with nothing due and of one that sends, holds of a poll

@@ -31,12 +31,11 @@ use Rattle.client.specs.Clients.{fresh, created}
 use Rattle.client.specs.Polls.{PolledInto, silent, polledBy, polled}
 use Rattle.client.specs.declared.client.Client.{Client}
 use Rattle.client.specs.declared.client.Created.{Created}
-use Rattle.client.specs.declared.poll.PollOutcome.{PollOutcome}
-use Rattle.client.specs.declared.poll.PollOutcome.the-variants.{Answered, Refused}
-use Rattle.run.specs.Calls.{Calls, ByHand, DropAddress}
+use Rattle.run.specs.Calls.{wakeOf, Calls, ByHand, DropAddress}
 use Rattle.run.specs.Demand3.{Entry, Run, start, momentAfter, OfPoll, events, older, notedAll, lostAll, Throughout, After, Since, never, since, later, counted, inTime, isPolled, eventsOf, Timely, total, next, unlessLost, Demand3}
-use Rattle.run.specs.Wrong.{daily, hasty, refusing, unexpiring, entering, restless, clinging, keeping, wakingAt, withoutExpiry, wakeOf, unmeasured, processedAgain}
+use Rattle.run.specs.Wrong.{daily, hasty, refusing, unexpiring, entering, restless, clinging, keeping, wakingAt, withoutExpiry, unmeasured, processedAgain}
 use Rattle.client.specs.declared.settings.Settings.{Settings}
+use Rattle.run.proofs.Answers.{isAnswered, lengthOf}
 use Rattle.run.proofs.Sample.{plain, standing, server, address, offer, ackWith, pollAfter, replyNow, fromFresh, runs, untilAck, computing, plain-created}
 
 -- A list that takes at most 2^30 ms is timely, however its polls end.
@@ -92,10 +91,6 @@ daily-fails w i d =
     omega arith
 
 -- Reports 8 before measuring: a poll right after the first, with a buffer of one octet, is refused.
-abbrev isAnswered : PollOutcome → Bool
-isAnswered (Answered answer) = true
-isAnswered (Refused number) = false
-
 pub hasty-fails : (w : Waits) → Demand3 (hasty w) → ⊥
 unfolding computing unmeasured
 hasty-fails w d =
@@ -194,10 +189,6 @@ unfolding due before
 still-undue w i =
     sym (if-false _ (ne-eqb (plus 0 (w .«discover_timeout» .millis)) 1 (λ e. omega arith))
     (sym (lt-leb 2147483648 (gap (plus 0 (w .«discover_timeout» .millis)) 1) (omega arith))))
-
-abbrev lengthOf : PollOutcome → ℕ
-lengthOf (Answered answer) = answer .length
-lengthOf (Refused number) = 0
 
 builds-nothing : (w : Waits) → InRange w → (wake : Instant)
     → lengthOf (wakingAt wake (polled w (standing (Discovering (discovering w 0)) noLease 3) emptyTables (drawn32 (generator 0) .rand) (moment 1) (replicate 556 0)) .polled .outcome) ≡ 0

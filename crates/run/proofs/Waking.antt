@@ -1,14 +1,14 @@
 -- After a poll that was not refused: polls leave all as it is up to the waking moment, and there a message is due. Assumes
 -- nothing.
-use Prim.Native.Nat.{ℕ, _+_, _-_, _≤_, _<_}
-use mathlib.Core.Path.{_≡_, refl, sym, ap, _∙_, subst, subst⁻¹}
+use Prim.Native.Nat.{ℕ, _+_, _≤_, _<_}
+use mathlib.Core.Path.{_≡_, refl, sym, ap, _∙_, subst⁻¹}
 use mathlib.Core.Bool.{true}
 use mathlib.Core.List.{List, [], _∷_}
 use native.Mathlib.Omega.{arith}
 use native.Mathlib.Nat.{add-zero, zero-add, add-assoc}
 use native.Mathlib.Decide.{decLt}
 use lib.ListN.{length}
-use Rattle.clock.specs.Moments.{wrap, plus, moment}
+use Rattle.clock.specs.Moments.{wrap, moment}
 use Rattle.clock.specs.Clocks.{day}
 use Rattle.clock.specs.declared.instant.Instant.{Instant}
 use Rattle.clock.specs.declared.rand.Rand.{Rand}

@@ -1,13 +1,11 @@
 -- Our calls meet demand 3. Assumes nothing.
-use Prim.Native.Nat.{ℕ, _+_, _-_, _≤_, _<_, min}
+use Prim.Native.Nat.{ℕ, _+_, _-_, _<_}
 use mathlib.Core.Path.{_≡_, refl, sym, ap, _∙_, subst, subst⁻¹}
-use mathlib.Core.Bool.{Bool, true, false, not, false≢true}
+use mathlib.Core.Bool.{Bool, true, false, false≢true}
 use mathlib.Core.List.{List, [], _∷_}
 use native.Mathlib.Omega.{arith}
 use native.Mathlib.Nat.{add-zero}
-use Rattle.clock.specs.Choice.{if_then_else_}
 use Rattle.clock.specs.Moments.{wrap, plus, gap, moment}
-use Rattle.clock.specs.Clocks.{day}
 use Rattle.clock.specs.Waits.{standardWaits}
 use Rattle.clock.specs.declared.instant.Instant.{Instant}
 use Rattle.clock.specs.declared.rand.Rand.{Rand}
@@ -16,15 +14,14 @@ use Rattle.clock.proofs.Choices.{if-false}
 use Rattle.clock.proofs.MomentLaws.{plus-near, gap-near}
 use Rattle.octets.specs.declared.number.MaybeNumber.{MaybeNumber}
 use Rattle.octets.specs.declared.number.MaybeNumber.the-variants.{None, Some}
-use Rattle.machine.specs.Polling.{following, InRange}
-use Rattle.machine.specs.declared.state.ClientState.the-variants.{Init}
-use Rattle.machine.proofs.Timers.{Timers, unset, Shows, init, Near, Ahead, soonest-ahead, wakeAt}
+use Rattle.machine.specs.Polling.{InRange}
+use Rattle.machine.proofs.Timers.{Timers, unset, Shows, init, Ahead, soonest-ahead, wakeAt}
 use Rattle.tables.specs.Tables.{dhcpAddrs, dhcpRoutes, wholeTables}
 use Rattle.tables.specs.declared.tables.Tables.{Tables}
 use Rattle.tables.specs.declared.manual.Outcome.{Outcome}
 use Rattle.tables.specs.declared.manual.Outcome.the-variants.{Done, Refused}
 use Rattle.client.specs.Settings.{refusalOf}
-use Rattle.client.specs.Leases.{noLease, nothing}
+use Rattle.client.specs.Leases.{nothing}
 use Rattle.client.specs.Clients.{fresh, createdOr, created}
 use Rattle.client.specs.Resets.{wholeAll}
 use Rattle.client.specs.Taken.{heldBy}
@@ -32,16 +29,15 @@ use Rattle.message.specs.declared.datagram.Route.{Route}
 use Rattle.client.specs.Polls.{PolledInto, builtInto, polled}
 use Rattle.client.specs.declared.settings.Settings.{Settings}
 use Rattle.client.specs.declared.client.Client.{Client}
-use Rattle.client.specs.declared.client.Created.{Created}
 use Rattle.client.specs.declared.poll.PollAnswer.{PollAnswer}
-use Rattle.client.specs.declared.poll.PollOutcome.{PollOutcome}
 use Rattle.client.specs.declared.poll.PollOutcome.the-variants as poll
 use Rattle.client.proofs.Wholes.{created-whole, all-whole}
 use Rattle.client.proofs.Effects.{gives}
 use Rattle.client.proofs.Polling.{moved-whole}
-use Rattle.run.specs.Calls.{Call, Poll, Reply, Reset, ByHand, LookUp, ours}
-use Rattle.run.specs.Demand3.{Entry, momentAfter, pollAt, called, stepped, told, OfPoll, Event, events, eventsOf, History, NoAck, notedAll, Lost, lostAll, older, Run, next, start, Throughout, Since, never, since, later, isPolled, inTime, counted, Timely, Tabled, Wakes, AfterPoll, IfPolled, After, Demand3}
+use Rattle.run.specs.Calls.{wakeOf, Call, Poll, Reply, Reset, ByHand, LookUp, ours}
+use Rattle.run.specs.Demand3.{Entry, momentAfter, pollAt, called, told, Event, events, eventsOf, History, notedAll, Lost, lostAll, older, Run, next, start, Throughout, Since, never, later, isPolled, inTime, counted, Timely, Wakes, IfPolled, After, Demand3}
 use Rattle.run.specs.declared.post.Post.{Post}
+use Rattle.run.proofs.Answers.{isAnswered}
 use Rattle.run.proofs.Polls.{Outcome as Polls-to, refuses, idles, moves, outcome}
 use Rattle.run.proofs.Invariant.{Timing, in-time, late, timing, lease-is, fitting, lost-none, Inv, inv-later, poll-step, reply-step, reset-step, hand-step}
 use Rattle.run.proofs.Waking.{wakes}
@@ -55,14 +51,6 @@ record Rested (t : ℕ) (c : Client) (tb : Tables) (a : PollAnswer) : Type 0 whe
   whole : wholeAll c tb ≡ true
   wake-is : a .wake ≡ moment (wrap (wakeAt t x))
 
-abbrev wakeIn : PollOutcome → Instant
-wakeIn (poll.Answered a) = a .wake
-wakeIn (poll.Refused n) = moment 0
-
-abbrev isAnswered : PollOutcome → Bool
-isAnswered (poll.Answered a) = true
-isAnswered (poll.Refused n) = false
-
 built-wake : (b : List ℕ) (route : Route) (out : List ℕ) (m : Instant) (purge : Bool) → builtInto b route out m purge .wake ≡ m
 built-wake [] route out m purge = refl
 built-wake (y ∷ ys) route out m purge = refl
@@ -74,14 +62,14 @@ module _ (w : Waits) (z : InRange w) where
 
     rested-by : {x : Timers} {r : PolledInto} → Polls-to c tb g b t x r → Shows x (c .state) → Rests r
     rested-by refuses sh a e = absurd (false≢true (ap isAnswered e))
-    rested-by {x} (idles q l v) sh a e = record { x = x; shows = sh; ahead = l; whole = v; wake-is = sym (ap wakeIn e) ∙ ap moment q }
+    rested-by {x} (idles q l v) sh a e = record { x = x; shows = sh; ahead = l; whole = v; wake-is = sym (ap wakeOf e) ∙ ap moment q }
     rested-by (moves {m = m} {s = k} x′ q go sh′ l u v) sh a e =
         record {
           x = x′;
           shows = sh′;
           ahead = l;
           whole = moved-whole c tb v g b (moment m) k (fitting sh go c refl);
-          wake-is = sym (ap wakeIn e) ∙ built-wake b _ _ (moment m) _ ∙ ap moment q;
+          wake-is = sym (ap wakeOf e) ∙ built-wake b _ _ (moment m) _ ∙ ap moment q;
         }
 
     rests : inTime true gp → Rests (polled w c tb g (moment (wrap t)) b)

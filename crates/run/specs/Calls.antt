@@ -2,6 +2,7 @@
 use Prim.Native.Nat.{ℕ}
 use mathlib.Core.Bool.{Bool}
 use mathlib.Core.List.{List}
+use Rattle.clock.specs.Moments.{moment}
 use Rattle.clock.specs.declared.instant.Instant.{Instant}
 use Rattle.clock.specs.declared.rand.Rand.{Rand}
 use Rattle.clock.specs.declared.waits.Waits.{Waits}
@@ -15,6 +16,8 @@ use Rattle.client.specs.Polls.{PolledInto, polled}
 use Rattle.client.specs.declared.settings.Settings.{Settings}
 use Rattle.client.specs.declared.client.Client.{Client}
 use Rattle.client.specs.declared.client.Created.{Created}
+use Rattle.client.specs.declared.poll.PollOutcome.{PollOutcome}
+use Rattle.client.specs.declared.poll.PollOutcome.the-variants.{Answered, Refused}
 use Rattle.client.specs.declared.process.Processed.{Processed}
 use Rattle.client.specs.declared.reset.WasReset.{WasReset}
 
@@ -54,6 +57,11 @@ pub record Calls : Type 0 where
   pub process : Client → Tables → ℕ → List ℕ → Instant → Processed
   pub reset : Client → Tables → WasReset
   pub byHand : Manual → Tables → Changed
+
+-- The waking moment of a poll that was not refused.
+abbrev pub wakeOf : PollOutcome → Instant
+wakeOf (Answered answer) = answer .wake
+wakeOf (Refused number) = moment 0
 
 -- Ours: the definitions that the contracts cite.
 abbrev pub changedBy : Manual → Tables → Changed

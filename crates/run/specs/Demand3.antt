@@ -26,7 +26,6 @@ use Rattle.tables.specs.declared.tables.Tables.{Tables}
 use Rattle.tables.specs.declared.apply.MaybeCidr.{MaybeCidr}
 use Rattle.tables.specs.declared.apply.MaybeCidr.the-variants.{Absent, Cidr}
 use Rattle.tables.specs.declared.apply.Installed.{Installed}
-use Rattle.tables.specs.declared.manual.Outcome.{Outcome}
 use Rattle.tables.specs.declared.manual.Outcome.the-variants as manual
 use Rattle.client.specs.Settings.{maximumOf}
 use Rattle.client.specs.Leases.{nothing}
@@ -42,7 +41,7 @@ use Rattle.client.specs.declared.process.ReplyOutcome.{ReplyOutcome}
 use Rattle.client.specs.declared.process.ReplyOutcome.the-variants as reply
 use Rattle.client.specs.declared.reset.ResetOutcome.{ResetOutcome}
 use Rattle.client.specs.declared.reset.ResetOutcome.the-variants as reset
-use Rattle.run.specs.Calls.{Manual, AddAddress, DropAddress, AddRoute, DropRoute, Query, Call, Poll, Reply, Reset, ByHand, LookUp, Calls}
+use Rattle.run.specs.Calls.{Manual, AddAddress, DropAddress, AddRoute, DropRoute, Call, Poll, Reply, Reset, ByHand, LookUp, Calls}
 use Rattle.run.specs.declared.post.Post.{Post}
 
 -- THE LIST

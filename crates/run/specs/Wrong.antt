@@ -25,7 +25,7 @@ use Rattle.client.specs.declared.process.Processed.{Processed}
 use Rattle.client.specs.declared.process.ReplyOutcome.{ReplyOutcome}
 use Rattle.client.specs.declared.process.ReplyOutcome.the-variants.{Taken, PassedOver}
 use Rattle.client.specs.declared.process.ReplyOutcome.the-variants as reply
-use Rattle.run.specs.Calls.{Calls, ours}
+use Rattle.run.specs.Calls.{Calls, wakeOf, ours}
 
 -- Ours with another poll, or another way to take replies.
 abbrev pub polling : Waits → (Client → Tables → Rand → Instant → List ℕ → PolledInto) → Calls
@@ -74,10 +74,6 @@ withoutExpiry Init now wake = wake
 withoutExpiry (Discovering s) now wake = wake
 withoutExpiry (Requesting s) now wake = wake
 withoutExpiry (Renewing s) now wake = moment (earlier (plus (now .millis) day) (retryAt s))
-
-abbrev pub wakeOf : PollOutcome → Instant
-wakeOf (Answered a) = a .wake
-wakeOf (Refused number) = moment 0
 
 abbrev pub unexpiring : Waits → Calls
 unexpiring w =
