@@ -1,46 +1,33 @@
--- What holds all along a run of our calls: deadlines on time that never wraps, and that history, lease and tables agree with
--- them. Assumes nothing.
+-- What holds all along a run of our calls, and that each call keeps it. Assumes nothing.
 use Prim.Native.Nat.{ℕ, _+_, _≤_, _<_}
 use mathlib.Core.Path.{_≡_, refl, sym, ap, _∙_, subst, subst⁻¹}
-use mathlib.Core.Bool.{Bool, true, false, false≢true}
+use mathlib.Core.Bool.{true, false, false≢true}
 use mathlib.Core.List.{List, [], _∷_}
 use native.Mathlib.Omega.{arith}
-use native.Mathlib.Decide.{decLe}
-use borrow.Author.Tests.{le-leb, lt-leb}
 use Rattle.clock.specs.Choice.{if_then_else_}
 use Rattle.clock.specs.Durations.{longest}
 use Rattle.clock.specs.Moments.{wrap, moment}
 use Rattle.clock.specs.declared.instant.Instant.{Instant}
 use Rattle.clock.specs.declared.rand.Rand.{Rand}
 use Rattle.clock.specs.declared.waits.Waits.{Waits}
-use Rattle.clock.proofs.Choices.{if-true, if-false, if-cases}
+use Rattle.clock.proofs.Choices.{if-true, if-false}
 use Rattle.clock.proofs.MomentLaws.{plus-near}
-use Rattle.octets.specs.Addresses.{unicast}
-use Rattle.octets.specs.declared.number.MaybeNumber.{MaybeNumber}
-use Rattle.octets.specs.declared.number.MaybeNumber.the-variants.{None, Some}
+use Rattle.octets.specs.declared.number.MaybeNumber.the-variants.{Some}
 use Rattle.wire.specs.Options.{optionData}
-use Rattle.wire.specs.Readings.{messageType, addressOf, secondsOf, ifUnicast, router, routerCode}
+use Rattle.wire.specs.Readings.{messageType, addressOf, secondsOf, router, routerCode}
 use Rattle.machine.specs.States.{hasLease, offer, ack, nak, requesting}
 use Rattle.machine.specs.Times.{given, timesOf, renewAfter, rebindAfter}
 use Rattle.machine.specs.Polling.{following, InRange}
 use Rattle.machine.specs.declared.state.ClientState.{ClientState}
 use Rattle.machine.specs.declared.state.ClientState.the-variants.{Init, Discovering, Requesting, Renewing}
 use Rattle.machine.specs.declared.poll.Sending.{Sending}
-use Rattle.machine.proofs.Timers.{Timers, unset, single, leased, Shows, init, discovering, requesting as requesting-shows, renewing, Dated, dated-later, Near, dated-near, Ahead, ahead-dated}
-use Rattle.machine.proofs.Decisions.{Over, Goes, discovers-from, requests-again, renews}
+use Rattle.machine.proofs.Timers.{Timers, unset, single, leased, Shows, init, requesting as requesting-shows, renewing, Dated, Ahead, ahead-dated}
+use Rattle.machine.proofs.Decisions.{Goes, discovers-from, requests-again, renews}
 use Rattle.machine.proofs.Bounds.{lease-most, row-nearer}
-use Rattle.tables.specs.Entries.{only, full, lessLost}
-use Rattle.tables.specs.Tables.{addrsOf, routesOf, addrIsDhcp, routeIsDhcp, dhcpAddrs, otherAddrs, dhcpRoutes, otherRoutes}
-use Rattle.tables.specs.declared.address.IfaceAddr.{IfaceAddr}
-use Rattle.tables.specs.declared.address.AddrTable.{AddrTable}
-use Rattle.tables.specs.declared.route.Route.{Route}
-use Rattle.tables.specs.declared.route.RouteTable.{RouteTable}
-use Rattle.tables.specs.Applied.{sameCidr, sameRouter, leasedAddrs, leasedRoutes}
+use Rattle.tables.specs.Tables.{dhcpAddrs, dhcpRoutes}
 use Rattle.tables.specs.declared.tables.Tables.{Tables}
 use Rattle.tables.specs.declared.apply.MaybeCidr.{MaybeCidr}
-use Rattle.tables.specs.declared.apply.MaybeCidr.the-variants.{Absent, Cidr}
 use Rattle.tables.specs.declared.apply.Installed.{Installed}
-use Rattle.tables.proofs.Origins.{same-cidr, same-cidr-self, same-router, same-router-self}
 use Rattle.tables.proofs.ByHand.{add-address-law, drop-address-law, add-route-law, drop-route-law}
 use Rattle.client.specs.Settings.{maximumOf}
 use Rattle.client.specs.Leases.{nothing}
@@ -59,187 +46,10 @@ use Rattle.client.proofs.Unchanged.{wasTaken, wasMade, refused-kept}
 use Rattle.client.proofs.Verdicts.{begun}
 use Rattle.client.proofs.Effects.{Entered, gives, Settles, reset-settles, reset-clears, Given, Became, unmoved, offered, was-acked, was-cleared, reply-effect, Fitting, moved-settles}
 use Rattle.run.specs.Calls.{Manual, AddAddress, DropAddress, AddRoute, DropRoute, changedBy}
-use Rattle.run.specs.Demand3.{OfPoll, OfReply, OfReset, givenBy, Event, Acked, Cleared, acceptedAs, accepted, events, History, NoAck, Held, older, expired, notedAll, isHeld, heldBy, Lost, lostBy, lostAll, Since, never, since, later, isPolled, inTime, counted, unlessLost, routesBy}
+use Rattle.run.specs.Demand3.{OfPoll, OfReply, OfReset, givenBy, Event, Acked, Cleared, acceptedAs, accepted, events, History, NoAck, Held, older, expired, notedAll, isHeld, heldBy, Lost, lostBy, lostAll, Since, since, later, isPolled, inTime, counted}
 use Rattle.run.proofs.Polls.{polled-cases, Outcome, refuses, idles, moves, outcome}
-
--- HISTORY AND DEADLINES
-
--- Expiry lies L after the ACK that is held; without one there is none.
-abbrev pub Agree : ℕ → History → Timers → Type 0
-Agree t NoAck unset = Unit {0}
-Agree t NoAck (single r) = Unit {0}
-Agree t NoAck (leased a b e g) = ⊥
-Agree t (Held l age i) unset = ⊥
-Agree t (Held l age i) (single r) = ⊥
-Agree t (Held l age i) (leased a b e g) = e + age ≡ t + l
-
-agree-later : (y t : ℕ) (h : History) (x : Timers) → Agree t h x → Agree (t + y) (older y h) x
-agree-later y t NoAck unset a = tt
-agree-later y t NoAck (single r) a = tt
-agree-later y t NoAck (leased p b e g) a = absurd a
-agree-later y t (Held l age i) unset a = absurd a
-agree-later y t (Held l age i) (single r) a = absurd a
-agree-later y t (Held l age i) (leased p b e g) a = omega arith
-
-agree-same : (t : ℕ) (h : History) (a b e : ℕ) (g : Bool) (a′ b′ : ℕ) (g′ : Bool) → Agree t h (leased a b e g) → Agree t h (leased a′ b′ e g′)
-agree-same t NoAck a b e g a′ b′ g′ k = k
-agree-same t (Held l age i) a b e g a′ b′ g′ k = k
-
--- Before the first poll nothing is open; after it deadlines lie no further back than the last poll.
-abbrev pub DatedBy : Since → ℕ → Timers → Type 0
-DatedBy never t unset = Unit {0}
-DatedBy never t (single r) = ⊥
-DatedBy never t (leased a b e g) = ⊥
-DatedBy (since k) t x = Dated k t x
-
-dated-by-later : (y : ℕ) (gp : Since) (t : ℕ) (x : Timers) → DatedBy gp t x → DatedBy (later y gp) (t + y) x
-dated-by-later y never t unset d = tt
-dated-by-later y never t (single r) d = absurd d
-dated-by-later y never t (leased a b e g) d = absurd d
-dated-by-later y (since k) t x d = dated-later k y t x d
-
-dated-unset : (gp : Since) (t : ℕ) → DatedBy gp t unset
-dated-unset never t = tt
-dated-unset (since k) t = tt
-
--- deadlines are near, or a poll that is not refused comes too late for the premise
-pub data Timing (gp : Since) (t : ℕ) (x : Timers) : Type 0 where
-  in-time : Near t x → Timing gp t x
-  late : (inTime true gp → ⊥) → Timing gp t x
-
-pub timing : (gp : Since) (t : ℕ) (x : Timers) → DatedBy gp t x → Timing gp t x
-timing never t unset d = in-time tt
-timing never t (single r) d = absurd d
-timing never t (leased a b e g) d = absurd d
-timing (since k) t x d = by (decLe k longest)
-  where
-    by : Dec (k ≤ longest) → Timing (since k) t x
-    by (yes l) = in-time (dated-near k t x l d)
-    by (no f) = late f
-
--- once a message was sent, deadlines that lie no further back may be set
-dated-anew : (gp : Since) (t : ℕ) (x : Timers) (state : ClientState) → Shows x state → DatedBy gp t x → begun state ≡ true → (x′ : Timers) → ((k : ℕ) → Dated k t x′) → DatedBy gp t x′
-dated-anew never t x state init d b x′ f = absurd (false≢true b)
-dated-anew never t x state (discovering h) d b x′ f = absurd d
-dated-anew never t x state (requesting-shows h) d b x′ f = absurd d
-dated-anew never t x state (renewing h i j) d b x′ f = absurd d
-dated-anew (since k) t x state sh d b x′ f = f k
-
--- A lease is in force exactly if an ACK is held.
-pub lease-is : (t : ℕ) (h : History) (x : Timers) (state : ClientState) → Shows x state → Agree t h x → hasLease state ≡ isHeld h
-lease-is t NoAck x state init a = refl
-lease-is t NoAck x state (discovering e) a = refl
-lease-is t NoAck x state (requesting-shows e) a = refl
-lease-is t NoAck x state (renewing e f g) a = absurd a
-lease-is t (Held l age i) x state init a = absurd a
-lease-is t (Held l age i) x state (discovering e) a = absurd a
-lease-is t (Held l age i) x state (requesting-shows e) a = absurd a
-lease-is t (Held l age i) x state (renewing e f g) a = refl
-
--- a poll before expiry leaves the history, one from there on clears it
-module _ (t : ℕ) where
-  held-on : (h : History) (a b e : ℕ) (g : Bool) → Agree t h (leased a b e g) → t < e → expired h ≡ h
-  unfolding expired
-  held-on NoAck a b e g k p = absurd k
-  held-on (Held l age i) a b e g k p = sym (if-false _ (lt-leb l age (omega arith)) refl)
-
-  none-held : (h : History) (x : Timers) → Agree t h x → Over t x → expired h ≡ NoAck
-  unfolding expired
-  none-held NoAck x k o = refl
-  none-held (Held l age i) unset k o = absurd k
-  none-held (Held l age i) (single r) k o = absurd k
-  none-held (Held l age i) (leased a b e g) k o = sym (if-true _ (le-leb l age (omega arith)) refl)
-
-  ahead-held : (h : History) (x : Timers) → Agree t h x → Ahead t x → expired h ≡ h
-  unfolding expired
-  ahead-held h unset k l = absurd l
-  ahead-held NoAck (single r) k l = refl
-  ahead-held (Held lease age i) (single r) k l = absurd k
-  ahead-held h (leased a b e g) k l = held-on h a b e g k (l .0 .0)
-
--- a Request leads from a state without a lease, or with one, to such a state
-pub fitting : {t : ℕ} {x x′ : Timers} {m : Sending} {state : ClientState} → Shows x state → Goes t x m x′ → (c : Client) → c .state ≡ state → Fitting c m
-fitting sh (discovers-from o) c e = tt
-fitting (discovering p) requests-again c e = ap hasLease e
-fitting (requesting-shows p) requests-again c e = ap hasLease e
-fitting (renewing p q r) (renews l) c e = ap hasLease e
-
--- THE TABLES
-
--- DHCP's entries are those that the ACK gives, less any lost.
-pub record Tab (tb : Tables) (lost : Lost) (i : Installed) : Type 0 where
-  pub addrs : dhcpAddrs tb ≡ unlessLost (lost .addr) (leasedAddrs (i .address))
-  pub routes : dhcpRoutes tb ≡ unlessLost (lost .route) (routesBy (i .router))
-
-pub lost-none : {A : Type 0} (b : Bool) → unlessLost {A = A} b [] ≡ []
-unfolding unlessLost if_then_else_
-lost-none true = refl
-lost-none false = refl
-
-none-taken : {A : Type 0} (others : List A) → lessLost {A = A} others [] ≡ []
-unfolding lessLost if_then_else_
-none-taken {A} others = by (full others)
-  where
-    by : (b : Bool) → if_then_else_ {A = List A} b [] [] ≡ []
-    by true = refl
-    by false = refl
-
-module _ (tb tb′ : Tables) (lost : Lost) where
-  tab-kept : (i : Installed) → Entered tb tb′ i i → Tab tb lost i → Tab tb′ lost i
-  tab-kept i n k =
-      record {
-        addrs = n .addrs ∙ sym (if-true _ (same-cidr-self (i .address)) refl) ∙ k .addrs;
-        routes = n .routes ∙ sym (if-true _ (same-router-self (i .router)) refl) ∙ k .routes;
-      }
-
-  tab-none : (i : Installed) → Entered tb tb′ i nothing → Tab tb lost i → Tab tb′ lost nothing
-  unfolding leasedRoutes
-  tab-none i n k =
-      record {
-        addrs = n .addrs ∙ no-addrs (i .address) (k .addrs) ∙ sym (lost-none (lost .addr));
-        routes = n .routes ∙ no-routes (i .router) (k .routes) ∙ sym (lost-none (lost .route));
-      }
-    where
-      no-addrs : (m : MaybeCidr) → dhcpAddrs tb ≡ unlessLost (lost .addr) (leasedAddrs m) → (if sameCidr Absent m then dhcpAddrs tb else lessLost (otherAddrs tb) []) ≡ []
-      no-addrs Absent e = sym (if-true _ refl refl) ∙ e ∙ lost-none (lost .addr)
-      no-addrs (Cidr a p) e = sym (if-false _ refl refl) ∙ none-taken (otherAddrs tb)
-
-      no-routes : (m : MaybeNumber) → dhcpRoutes tb ≡ unlessLost (lost .route) (routesBy m) → (if sameRouter None m then dhcpRoutes tb else lessLost (otherRoutes tb) []) ≡ []
-      no-routes None e = sym (if-true _ refl refl) ∙ e ∙ lost-none (lost .route)
-      no-routes (Some a) e = sym (if-false _ refl refl) ∙ none-taken (otherRoutes tb)
-
-  -- what an ACK loses of what it enters
-  abbrev lostFor : Installed → Installed → Lost
-  lostFor new old = record {
-    addr = if sameCidr (new .address) (old .address) then lost .addr else full (otherAddrs tb);
-    route = if sameRouter (new .router) (old .router) then lost .route else full (otherRoutes tb);
-  }
-
-  tab-acked : (old new : Installed) → Entered tb tb′ old new → leasedRoutes (new .router) ≡ routesBy (new .router) → Tab tb lost old → Tab tb′ (lostFor new old) new
-  unfolding lessLost unlessLost if_then_else_
-  tab-acked old new n u k =
-      record {
-        addrs = n .addrs ∙ of-addrs (sameCidr (new .address) (old .address)) refl;
-        routes = n .routes ∙ of-routes (sameRouter (new .router) (old .router)) refl;
-      }
-    where
-      of-addrs : (b : Bool) → sameCidr (new .address) (old .address) ≡ b
-          → (if b then dhcpAddrs tb else lessLost (otherAddrs tb) (leasedAddrs (new .address))) ≡ unlessLost (if b then lost .addr else full (otherAddrs tb)) (leasedAddrs (new .address))
-      of-addrs true e = k .addrs ∙ ap (λ (m : MaybeCidr). unlessLost (lost .addr) (leasedAddrs m)) (sym (same-cidr (new .address) (old .address) e))
-      of-addrs false e = refl
-
-      of-routes : (b : Bool) → sameRouter (new .router) (old .router) ≡ b
-          → (if b then dhcpRoutes tb else lessLost (otherRoutes tb) (leasedRoutes (new .router))) ≡ unlessLost (if b then lost .route else full (otherRoutes tb)) (routesBy (new .router))
-      of-routes true e = k .routes ∙ ap (λ (m : MaybeNumber). unlessLost (lost .route) (routesBy m)) (sym (same-router (new .router) (old .router) e))
-      of-routes false e = ap (lessLost (otherRoutes tb)) u
-
--- a router that a reply gives makes a route
-routed : (m : MaybeNumber) → leasedRoutes (ifUnicast m) ≡ routesBy (ifUnicast m)
-unfolding leasedRoutes
-routed None = refl
-routed (Some a) = if-cases (λ (r : MaybeNumber). leasedRoutes r ≡ routesBy r) (unicast a) (λ u. sym (if-true _ u refl)) (λ u. refl)
-
--- THE RUN
+use Rattle.run.proofs.Agreement.{agree-later, agree-same, dated-by-later, dated-unset, Timing, timing, dated-anew, lease-is, held-on, none-held, ahead-held, fitting, Agree, DatedBy, in-time, late}
+use Rattle.run.proofs.Entries.{Tab, tab-kept, tab-none, tab-acked, routed, own-in, dhcp-in}
 
 -- At t, gp after the last poll that was not refused.
 pub record Inv (s : Settings) (gp : Since) (t : ℕ) (c : Client) (tb : Tables) (h : History) (lost : Lost) : Type 0 where
@@ -289,13 +99,6 @@ untaken-events : (s : Settings) (bytes : List ℕ) (o : ReplyOutcome) → wasTak
 untaken-events s bytes (reply.Taken p) e = absurd (false≢true (sym e))
 untaken-events s bytes (reply.PassedOver n) e = refl
 untaken-events s bytes (reply.Refused n) e = refl
-
--- DHCP's entries of one table
-abbrev own-in : AddrTable → List IfaceAddr
-own-in t = only addrIsDhcp (addrsOf t)
-
-abbrev dhcp-in : RouteTable → List Route
-dhcp-in t = only routeIsDhcp (routesOf t)
 
 -- what an ACK gives is what its bytes say
 given-by : (bytes : List ℕ) (i : Installed) → Given bytes i → i ≡ givenBy bytes

@@ -1,6 +1,8 @@
 pub mod Answers
 pub mod Polls
 pub mod Built
+pub mod Agreement
+pub mod Entries
 pub mod Invariant
 pub mod Waking
 pub mod Open

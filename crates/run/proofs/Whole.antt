@@ -39,7 +39,9 @@ use Rattle.run.specs.Demand3.{Entry, momentAfter, pollAt, called, told, 
 use Rattle.run.specs.declared.post.Post.{Post}
 use Rattle.run.proofs.Answers.{isAnswered}
 use Rattle.run.proofs.Polls.{Outcome as Polls-to, refuses, idles, moves, outcome}
-use Rattle.run.proofs.Invariant.{Timing, in-time, late, timing, lease-is, fitting, lost-none, Inv, inv-later, poll-step, reply-step, reset-step, hand-step}
+use Rattle.run.proofs.Agreement.{Timing, in-time, late, timing, lease-is, fitting}
+use Rattle.run.proofs.Entries.{lost-none}
+use Rattle.run.proofs.Invariant.{Inv, inv-later, poll-step, reply-step, reset-step, hand-step}
 use Rattle.run.proofs.Waking.{wakes}
 use Rattle.run.proofs.Open.{Sound, open-from}
 

@@ -1,0 +1,105 @@
+-- DHCP's entries follow what the ACK that is held gives, less any lost. Assumes nothing.
+use mathlib.Core.Path.{_≡_, refl, sym, ap, _∙_}
+use mathlib.Core.Bool.{Bool, true, false}
+use mathlib.Core.List.{List, []}
+use Rattle.clock.specs.Choice.{if_then_else_}
+use Rattle.clock.proofs.Choices.{if-true, if-false, if-cases}
+use Rattle.octets.specs.Addresses.{unicast}
+use Rattle.octets.specs.declared.number.MaybeNumber.{MaybeNumber}
+use Rattle.octets.specs.declared.number.MaybeNumber.the-variants.{None, Some}
+use Rattle.wire.specs.Readings.{ifUnicast, router}
+use Rattle.tables.specs.Entries.{only, full, lessLost}
+use Rattle.tables.specs.Tables.{addrsOf, routesOf, addrIsDhcp, routeIsDhcp, dhcpAddrs, otherAddrs, dhcpRoutes, otherRoutes}
+use Rattle.tables.specs.declared.address.IfaceAddr.{IfaceAddr}
+use Rattle.tables.specs.declared.address.AddrTable.{AddrTable}
+use Rattle.tables.specs.declared.route.Route.{Route}
+use Rattle.tables.specs.declared.route.RouteTable.{RouteTable}
+use Rattle.tables.specs.Applied.{sameCidr, sameRouter, leasedAddrs, leasedRoutes}
+use Rattle.tables.specs.declared.tables.Tables.{Tables}
+use Rattle.tables.specs.declared.apply.MaybeCidr.{MaybeCidr}
+use Rattle.tables.specs.declared.apply.MaybeCidr.the-variants.{Absent, Cidr}
+use Rattle.tables.specs.declared.apply.Installed.{Installed}
+use Rattle.tables.proofs.Origins.{same-cidr, same-cidr-self, same-router, same-router-self}
+use Rattle.client.specs.Leases.{nothing}
+use Rattle.client.proofs.Effects.{Entered}
+use Rattle.run.specs.Demand3.{Lost, unlessLost, routesBy}
+
+-- DHCP's entries are those that the ACK gives, less any lost.
+pub record Tab (tb : Tables) (lost : Lost) (i : Installed) : Type 0 where
+  pub addrs : dhcpAddrs tb ≡ unlessLost (lost .addr) (leasedAddrs (i .address))
+  pub routes : dhcpRoutes tb ≡ unlessLost (lost .route) (routesBy (i .router))
+
+pub lost-none : {A : Type 0} (b : Bool) → unlessLost {A = A} b [] ≡ []
+unfolding unlessLost if_then_else_
+lost-none true = refl
+lost-none false = refl
+
+pub none-taken : {A : Type 0} (others : List A) → lessLost {A = A} others [] ≡ []
+unfolding lessLost if_then_else_
+none-taken {A} others = by (full others)
+  where
+    by : (b : Bool) → if_then_else_ {A = List A} b [] [] ≡ []
+    by true = refl
+    by false = refl
+
+module _ (tb tb′ : Tables) (lost : Lost) where
+  pub tab-kept : (i : Installed) → Entered tb tb′ i i → Tab tb lost i → Tab tb′ lost i
+  tab-kept i n k =
+      record {
+        addrs = n .addrs ∙ sym (if-true _ (same-cidr-self (i .address)) refl) ∙ k .addrs;
+        routes = n .routes ∙ sym (if-true _ (same-router-self (i .router)) refl) ∙ k .routes;
+      }
+
+  pub tab-none : (i : Installed) → Entered tb tb′ i nothing → Tab tb lost i → Tab tb′ lost nothing
+  unfolding leasedRoutes
+  tab-none i n k =
+      record {
+        addrs = n .addrs ∙ no-addrs (i .address) (k .addrs) ∙ sym (lost-none (lost .addr));
+        routes = n .routes ∙ no-routes (i .router) (k .routes) ∙ sym (lost-none (lost .route));
+      }
+    where
+      no-addrs : (m : MaybeCidr) → dhcpAddrs tb ≡ unlessLost (lost .addr) (leasedAddrs m) → (if sameCidr Absent m then dhcpAddrs tb else lessLost (otherAddrs tb) []) ≡ []
+      no-addrs Absent e = sym (if-true _ refl refl) ∙ e ∙ lost-none (lost .addr)
+      no-addrs (Cidr a p) e = sym (if-false _ refl refl) ∙ none-taken (otherAddrs tb)
+
+      no-routes : (m : MaybeNumber) → dhcpRoutes tb ≡ unlessLost (lost .route) (routesBy m) → (if sameRouter None m then dhcpRoutes tb else lessLost (otherRoutes tb) []) ≡ []
+      no-routes None e = sym (if-true _ refl refl) ∙ e ∙ lost-none (lost .route)
+      no-routes (Some a) e = sym (if-false _ refl refl) ∙ none-taken (otherRoutes tb)
+
+  -- what an ACK loses of what it enters
+  abbrev pub lostFor : Installed → Installed → Lost
+  lostFor new old = record {
+    addr = if sameCidr (new .address) (old .address) then lost .addr else full (otherAddrs tb);
+    route = if sameRouter (new .router) (old .router) then lost .route else full (otherRoutes tb);
+  }
+
+  pub tab-acked : (old new : Installed) → Entered tb tb′ old new → leasedRoutes (new .router) ≡ routesBy (new .router) → Tab tb lost old → Tab tb′ (lostFor new old) new
+  unfolding lessLost unlessLost if_then_else_
+  tab-acked old new n u k =
+      record {
+        addrs = n .addrs ∙ of-addrs (sameCidr (new .address) (old .address)) refl;
+        routes = n .routes ∙ of-routes (sameRouter (new .router) (old .router)) refl;
+      }
+    where
+      of-addrs : (b : Bool) → sameCidr (new .address) (old .address) ≡ b
+          → (if b then dhcpAddrs tb else lessLost (otherAddrs tb) (leasedAddrs (new .address))) ≡ unlessLost (if b then lost .addr else full (otherAddrs tb)) (leasedAddrs (new .address))
+      of-addrs true e = k .addrs ∙ ap (λ (m : MaybeCidr). unlessLost (lost .addr) (leasedAddrs m)) (sym (same-cidr (new .address) (old .address) e))
+      of-addrs false e = refl
+
+      of-routes : (b : Bool) → sameRouter (new .router) (old .router) ≡ b
+          → (if b then dhcpRoutes tb else lessLost (otherRoutes tb) (leasedRoutes (new .router))) ≡ unlessLost (if b then lost .route else full (otherRoutes tb)) (routesBy (new .router))
+      of-routes true e = k .routes ∙ ap (λ (m : MaybeNumber). unlessLost (lost .route) (routesBy m)) (sym (same-router (new .router) (old .router) e))
+      of-routes false e = ap (lessLost (otherRoutes tb)) u
+
+-- a router that a reply gives makes a route
+pub routed : (m : MaybeNumber) → leasedRoutes (ifUnicast m) ≡ routesBy (ifUnicast m)
+unfolding leasedRoutes
+routed None = refl
+routed (Some a) = if-cases (λ (r : MaybeNumber). leasedRoutes r ≡ routesBy r) (unicast a) (λ u. sym (if-true _ u refl)) (λ u. refl)
+
+-- DHCP's entries of one table
+abbrev pub own-in : AddrTable → List IfaceAddr
+own-in t = only addrIsDhcp (addrsOf t)
+
+abbrev pub dhcp-in : RouteTable → List Route
+dhcp-in t = only routeIsDhcp (routesOf t)
