@@ -1,15 +1,17 @@
--- A poll's message is no longer than the MTU allows, and a whole client stays whole under it. Assumes nothing.
+-- A poll by its outcome: what is refused leaves all as it came; a message is no longer than the MTU allows, and a whole client
+-- stays whole under it. Assumes nothing.
 use Prim.Native.Nat.{ℕ, _-_, _≤_, _<_}
-use mathlib.Core.Path.{_≡_, refl, _∙_}
-use mathlib.Core.Bool.{true, not}
+use mathlib.Core.Path.{_≡_, refl, sym, ap, _∙_}
+use mathlib.Core.Bool.{Bool, true, false, not, false≢true}
 use mathlib.Core.List.{List}
 use native.Mathlib.Omega.{arith}
 use lib.ListN.{length, length-append}
 use lib.Dec.{ltb}
 use borrow.Author.Tests.{ltb-false}
-use Rattle.clock.proofs.Choices.{if-true, if-cases}
+use Rattle.clock.proofs.Choices.{if-true, if-false, if-cases}
 use Rattle.clock.specs.declared.instant.Instant.{Instant}
 use Rattle.clock.specs.declared.rand.Rand.{Rand}
+use Rattle.clock.specs.declared.waits.Waits.{Waits}
 use Rattle.octets.specs.Items.{wholeItems}
 use Rattle.octets.specs.declared.number.MaybeNumber.{MaybeNumber}
 use Rattle.octets.specs.declared.number.MaybeNumber.the-variants.{None, Some}
@@ -18,19 +20,61 @@ use Rattle.message.specs.Written.{nameLimit, extraLimit, listFits}
 use Rattle.message.proofs.Messages.{address-most}
 use Rattle.message.proofs.Datagrams.{datagram-length}
 use Rattle.machine.specs.States.{hasLease}
+use Rattle.machine.specs.Polling.{decided}
 use Rattle.machine.specs.declared.state.ClientState.the-variants.{Discovering, Requesting, Renewing}
 use Rattle.machine.specs.declared.poll.Sending.{Sending}
 use Rattle.machine.specs.declared.poll.Sending.the-variants.{Discover, Request, Renew}
+use Rattle.machine.specs.declared.poll.Due.{Due}
+use Rattle.machine.specs.declared.poll.Due.the-variants.{Nothing, Send}
 use Rattle.tables.specs.declared.tables.Tables.{Tables}
 use Rattle.client.specs.Settings.{extraOf, messageOf, request, longest, longestLength, overCap, isEthernet, sizeRefusal, listsRefusal, refusalOf}
 use Rattle.client.specs.Leases.{wholeLease}
 use Rattle.client.specs.Clients.{leaseFits, wholeClient}
 use Rattle.client.specs.Resets.{wholeAll, cleared}
-use Rattle.client.specs.Polls.{discover, unspecified, idOf, routeOf, bodyOf, datagramOf, awaiting, moved}
+use Rattle.client.specs.Polls.{PolledInto, discover, unspecified, idOf, routeOf, bodyOf, datagramOf, awaiting, moved, refusedBy, passedBy, tooShort, sent, polledAs, polledBy, polled}
 use Rattle.client.specs.declared.settings.Settings.{Settings}
 use Rattle.client.specs.declared.client.Client.{Client}
+use Rattle.client.specs.declared.poll.PollAnswer.{PollAnswer}
+use Rattle.client.specs.declared.poll.PollOutcome.{PollOutcome}
+use Rattle.client.specs.declared.poll.PollOutcome.the-variants.{Answered, Refused}
 use Rattle.client.proofs.Wholes.{settings-whole, lease-fits, unread-fits, read-fits, parts-whole, all-whole, all-parts, cleared-whole}
 use Rattle.client.proofs.Effects.{Fitting}
+
+module _ (c : Client) (t : Tables) (g : Rand) (b : List ℕ) where
+  -- what holds of a refusal, of a poll with nothing due and of one that sends, holds of a poll
+  pub sent-cases : (P : PolledInto → Type 0) → P (refusedBy c t g b 8) → (m : Instant) (s : Sending) → P (moved c t g b m s) → P (sent c t g b m s)
+  unfolding sent
+  sent-cases P r m s f = if-cases P (tooShort b (length (datagramOf c g s))) (λ e. r) (λ e. f)
+
+  pub polled-cases : (P : PolledInto → Type 0) → ((n : ℕ) → P (refusedBy c t g b n)) → ((m : Instant) → P (passedBy c t g b m)) → ((m : Instant) (s : Sending) → P (moved c t g b m s))
+      → (w : Waits) (now : Instant) → P (polled w c t g now b)
+  unfolding polled
+  polled-cases P r p f w now =
+      if-cases P (not (wholeAll c t)) (λ e. r 9) (λ e. by (decided w (c .state) (now .millis) .due) (decided w (c .state) (now .millis) .wake))
+    where
+      by : (d : Due) (m : Instant) → P (polledAs c t g b m d)
+      by Nothing m = p m
+      by (Send s) m = sent-cases P (r 8) m s (f m s)
+
+  -- The poll of a client and tables that are whole.
+  pub polled-whole : wholeAll c t ≡ true → (w : Waits) (now : Instant) → polled w c t g now b ≡ polledBy c t g b (decided w (c .state) (now .millis))
+  unfolding polled
+  polled-whole h w now = sym (if-false _ (ap not h) refl)
+
+  -- A poll that is refused leaves all as it came, the lent buffer too.
+  pub poll-kept : (w : Waits) (now : Instant) (n : ℕ) → polled w c t g now b .polled .outcome ≡ Refused n
+      → (polled w c t g now b .polled .client ≡ c) × (polled w c t g now b .polled .tables ≡ t) × (polled w c t g now b .polled .rand ≡ g) × (polled w c t g now b .buffer ≡ b)
+  poll-kept w now n = polled-cases Kept (λ m e. (refl, refl, refl, refl)) (λ m e. absurd (answered e)) (λ m s e. absurd (answered e)) w now
+    where
+      Kept : PolledInto → Type 0
+      Kept r = r .polled .outcome ≡ Refused n → (r .polled .client ≡ c) × (r .polled .tables ≡ t) × (r .polled .rand ≡ g) × (r .buffer ≡ b)
+
+      isRefused : PollOutcome → Bool
+      isRefused (Answered a) = false
+      isRefused (Refused m) = true
+
+      answered : {a : PollAnswer} → Answered a ≡ Refused n → ⊥
+      answered e = false≢true (ap isRefused e)
 
 -- no message is longer than the longest
 module _ (s : Settings) (kind id client : ℕ) (requested server : MaybeNumber) (name list extra : List ℕ) where

@@ -1,5 +1,5 @@
 // The DHCP client of a post, by value: its settings and creation, its lease, replies, resets, and what can be looked up.
-// Ports the rest of iface/dhcpv4.rs, but for the poll.
+// Ports the rest of iface/dhcpv4.rs; of the poll there is what it answers, and specs/Polls.antt says what it does.
 //
 // Any client, tables, reply and moment have an answer: a result, or a number of document 01, and then nothing has changed.
 

@@ -21,8 +21,8 @@ use Rattle.client.specs.Polls.{PolledInto, datagramOf, refusedBy, moved, polled
 use Rattle.client.specs.declared.client.Client.{Client}
 use Rattle.client.specs.declared.poll.PollAnswer.{PollAnswer}
 use Rattle.client.specs.declared.poll.PollOutcome.the-variants.{Answered}
+use Rattle.client.proofs.Polling.{sent-cases}
 use Rattle.run.proofs.Answers.{isAnswered, lengthOf}
-use Rattle.run.proofs.Polls.{sent-cases}
 
 -- The datagram that is due, if one is.
 abbrev pub datagramDue : Client → Rand → Due → List ℕ

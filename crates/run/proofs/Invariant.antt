@@ -45,9 +45,10 @@ use Rattle.client.specs.declared.reset.ResetOutcome.the-variants as reset
 use Rattle.client.proofs.Unchanged.{wasTaken, wasMade, refused-kept}
 use Rattle.client.proofs.Verdicts.{begun}
 use Rattle.client.proofs.Effects.{Entered, gives, Settles, reset-settles, reset-clears, Given, Became, unmoved, offered, was-acked, was-cleared, reply-effect, Fitting, moved-settles}
+use Rattle.client.proofs.Polling.{polled-cases}
 use Rattle.run.specs.Calls.{Manual, AddAddress, DropAddress, AddRoute, DropRoute, changedBy}
 use Rattle.run.specs.Demand3.{OfPoll, OfReply, OfReset, givenBy, Event, Acked, Cleared, acceptedAs, accepted, events, History, NoAck, Held, older, expired, notedAll, isHeld, heldBy, Lost, lostBy, lostAll, Since, since, later, isPolled, inTime, counted}
-use Rattle.run.proofs.Polls.{polled-cases, Outcome, refuses, idles, moves, outcome}
+use Rattle.run.proofs.Polls.{Outcome, refuses, idles, moves, outcome}
 use Rattle.run.proofs.Agreement.{agree-later, agree-same, dated-by-later, dated-unset, Timing, timing, dated-anew, lease-is, held-on, none-held, ahead-held, fitting, Agree, DatedBy, in-time, late}
 use Rattle.run.proofs.Entries.{Tab, tab-kept, tab-none, tab-acked, routed, own-in, dhcp-in}
 
@@ -77,7 +78,7 @@ inv-later s gp t y c tb h lost i =
       tab = rw (held-older y h) (i .tab);
     }
 
--- what no event but a poll's does to the premise, and what a reply's message type makes of it
+-- what a reply that is accepted is to the history, by its message type
 offer-accepted : (s : Settings) (bytes : List ℕ) → accepted s bytes (Some offer) ≡ []
 unfolding acceptedAs if_then_else_
 offer-accepted s bytes = refl

@@ -36,12 +36,12 @@ use Rattle.client.specs.declared.poll.PollOutcome.the-variants as poll
 use Rattle.client.proofs.Wholes.{all-parts, all-whole, processed-whole, reset-whole}
 use Rattle.client.proofs.Unchanged.{wasMade, reply-answered, reset-made}
 use Rattle.client.proofs.Effects.{Fitting, reply-effect, reset-settles, moved-settles}
-use Rattle.client.proofs.Polling.{datagram-fits, moved-whole}
+use Rattle.client.proofs.Polling.{sent-cases, polled-whole, datagram-fits, moved-whole}
 use Rattle.run.specs.Calls.{Manual, AddAddress, DropAddress, AddRoute, DropRoute, Call, Poll, Reply, Reset, ByHand, LookUp, changedBy, ours}
 use Rattle.run.specs.Demand3.{Entry, momentAfter, called, next, Run, Throughout, Enough, Builds, Justly, prefix-over, router-bad, table-full, Open, OpenTo}
 use Rattle.run.specs.declared.post.Post.{Post}
 use Rattle.run.proofs.Answers.{isAnswered, numberOf}
-use Rattle.run.proofs.Polls.{sent-cases, polled-whole, enough-or-short, short-lent, sends-by}
+use Rattle.run.proofs.Polls.{enough-or-short, short-lent, sends-by}
 
 -- A POLL
 

@@ -1,6 +1,6 @@
 -- Our poll, sorted by its outcome: on time that never wraps where all open deadlines are near, and at any time. Assumes nothing.
 use Prim.Native.Nat.{ℕ, _≤_, _<_}
-use mathlib.Core.Path.{_≡_, refl, sym, ap, subst}
+use mathlib.Core.Path.{_≡_, refl, sym, subst}
 use mathlib.Core.Bool.{Bool, true, false, not, false≢true}
 use mathlib.Core.List.{List, [], _∷_}
 use native.Mathlib.Omega.{arith}
@@ -14,38 +14,18 @@ use Rattle.clock.specs.declared.waits.Waits.{Waits}
 use Rattle.clock.proofs.Choices.{if-true, if-false, if-cases}
 use Rattle.machine.specs.Polling.{decided, following, InRange}
 use Rattle.machine.specs.declared.poll.Sending.{Sending}
-use Rattle.machine.specs.declared.poll.Due.{Due}
-use Rattle.machine.specs.declared.poll.Due.the-variants.{Nothing, Send}
+use Rattle.machine.specs.declared.poll.Due.the-variants.{Send}
 use Rattle.machine.specs.declared.poll.Decision.{Decision}
 use Rattle.machine.proofs.Timers.{Timers, Shows, Near, Ahead, soonest, wakeAt}
 use Rattle.machine.proofs.Decisions.{Goes, Decides, nothing, sending, decides}
 use Rattle.tables.specs.declared.tables.Tables.{Tables}
 use Rattle.client.specs.Resets.{wholeAll}
-use Rattle.client.specs.Polls.{PolledInto, datagramOf, refusedBy, passedBy, moved, tooShort, sent, polledAs, polledBy, polled}
+use Rattle.client.specs.Polls.{PolledInto, datagramOf, refusedBy, passedBy, moved, tooShort, sent, polledBy, polled}
 use Rattle.client.specs.declared.client.Client.{Client}
+use Rattle.client.proofs.Polling.{sent-cases}
 use Rattle.run.specs.Demand3.{Enough, Builds}
 
 module _ (c : Client) (t : Tables) (g : Rand) (b : List ℕ) where
-  -- what holds of a refusal, of a poll with nothing due and of one that sends, holds of a poll
-  pub sent-cases : (P : PolledInto → Type 0) → P (refusedBy c t g b 8) → (m : Instant) (s : Sending) → P (moved c t g b m s) → P (sent c t g b m s)
-  unfolding sent
-  sent-cases P r m s f = if-cases P (tooShort b (length (datagramOf c g s))) (λ e. r) (λ e. f)
-
-  pub polled-cases : (P : PolledInto → Type 0) → ((n : ℕ) → P (refusedBy c t g b n)) → ((m : Instant) → P (passedBy c t g b m)) → ((m : Instant) (s : Sending) → P (moved c t g b m s))
-      → (w : Waits) (now : Instant) → P (polled w c t g now b)
-  unfolding polled
-  polled-cases P r p f w now =
-      if-cases P (not (wholeAll c t)) (λ e. r 9) (λ e. by (decided w (c .state) (now .millis) .due) (decided w (c .state) (now .millis) .wake))
-    where
-      by : (d : Due) (m : Instant) → P (polledAs c t g b m d)
-      by Nothing m = p m
-      by (Send s) m = sent-cases P (r 8) m s (f m s)
-
-  -- The poll of a client and tables that are whole.
-  pub polled-whole : wholeAll c t ≡ true → (w : Waits) (now : Instant) → polled w c t g now b ≡ polledBy c t g b (decided w (c .state) (now .millis))
-  unfolding polled
-  polled-whole h w now = sym (if-false _ (ap not h) refl)
-
   pub data Outcome (u : ℕ) (x : Timers) : PolledInto → Type 0 where
     refuses : {n : ℕ} → Outcome u x (refusedBy c t g b n)
     idles : {m : ℕ} → m ≡ wrap (wakeAt u x) → Ahead u x → wholeAll c t ≡ true → Outcome u x (passedBy c t g b (moment m))
@@ -54,7 +34,7 @@ module _ (c : Client) (t : Tables) (g : Rand) (b : List ℕ) where
 
   by-decision : (u : ℕ) (x : Timers) → wholeAll c t ≡ true → (d : Decision) → Decides u x d → Outcome u x (polledBy c t g b d)
   by-decision u x h d (nothing e a) = idles e a h
-  by-decision u x h d (sending {m} {s} x′ e go sh a l) = sent-cases (Outcome u x) refuses (moment m) s (moves x′ e go sh a l h)
+  by-decision u x h d (sending {m} {s} x′ e go sh a l) = sent-cases c t g b (Outcome u x) refuses (moment m) s (moves x′ e go sh a l h)
 
   pub outcome : (w : Waits) → InRange w → (u : ℕ) (x : Timers) → Shows x (c .state) → Near u x → Outcome u x (polled w c t g (moment (wrap u)) b)
   unfolding polled

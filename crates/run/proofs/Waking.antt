@@ -24,11 +24,11 @@ use Rattle.client.specs.Resets.{wholeAll}
 use Rattle.client.specs.Polls.{PolledInto, datagramOf, refusedBy, passedBy, polledBy, polled}
 use Rattle.client.specs.declared.client.Client.{Client}
 use Rattle.client.proofs.Wholes.{all-parts}
-use Rattle.client.proofs.Polling.{datagram-fits}
+use Rattle.client.proofs.Polling.{polled-whole, datagram-fits}
 use Rattle.run.specs.Calls.{Call, Poll, Reply, Reset, ByHand, LookUp, ours}
 use Rattle.run.specs.Demand3.{Entry, momentAfter, pollAt, called, stepped, Merely, OnlyPolls, after, total, Quiet, Enough, EnoughIn, NoneAt, Builds, Owed, Wakes}
 use Rattle.run.specs.declared.post.Post.{Post}
-use Rattle.run.proofs.Polls.{polled-whole, enough-or-short, short-or-enough, Sends, sends-by}
+use Rattle.run.proofs.Polls.{enough-or-short, short-or-enough, Sends, sends-by}
 
 -- before a moment, none is at it
 none-before : (n d u : ℕ) (es : List Entry) → u + total es < d → NoneAt n d u es
