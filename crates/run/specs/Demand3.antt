@@ -1,6 +1,13 @@
 -- Demand 3, as document 01 reads it in "The run in demand 3": one claim about every list of calls from a fresh client, of any
 -- set of calls. What stands in quotes is document 01's, or the owner's. `Demand3`, the last definition, is the claim; that our
 -- calls meet it is proved in proofs/Whole.antt, and that wrong ones don't in proofs/Refuted.antt.
+--
+-- In short, for every list in which at most 2^30 ms pass from one poll not refused to the next:
+--   after every call, DHCP's entries in the tables are the held ACK's, less any lost: `Tabled`;
+--   after a poll not refused, a lease is in force exactly if an ACK is held: `AfterPoll`, lease;
+--   then polls change and build nothing before the waking moment: `Wakes`, before;
+--   and the first at it builds a message, unless it lies 24 hours on: `Wakes`, at.
+-- And for every list, from whole tables: no call locks the client out, `Open`.
 use Prim.Native.Nat.{ℕ, _+_, _-_, _^_, _≤_, _<_}
 use mathlib.Core.Path.{_≡_}
 use mathlib.Core.Bool.{Bool, true, false, not}
