@@ -23,7 +23,7 @@ use Rattle.tables.specs.Applied.{sameCidr, sameRouter, leasedAddrs, leasedRoute
 use Rattle.tables.specs.declared.tables.Tables.{Tables}
 use Rattle.tables.specs.declared.apply.MaybeCidr.the-variants.{Cidr}
 use Rattle.tables.specs.declared.apply.Installed.{Installed}
-use Rattle.tables.proofs.Origins.{own-addrs-applied, own-routes-applied, same-cidr, same-cidr-self, same-router, same-router-self}
+use Rattle.tables.proofs.Origins.{and-true, own-addrs-applied, own-routes-applied, same-cidr, same-cidr-self, same-router, same-router-self}
 use Rattle.client.specs.Leases.{noLease, sameTerms, sameAddresses, sameLease, installed, nothing}
 use Rattle.client.specs.Clients.{inState}
 use Rattle.client.specs.Resets.{wholeAll, cleared, wasReset}
@@ -102,10 +102,6 @@ module _ (c : Client) (t : Tables) where
       if-cases (λ (r : WasReset). wasMade (r .outcome) ≡ true → r .client .state ≡ Init) (not (wholeAll c t)) (λ e h. cc) (λ e h. cleared-settles .0)
 
 -- leases that are the same give the same
-and-true : (a b : Bool) → a && b ≡ true → (a ≡ true) × (b ≡ true)
-and-true true b h = (refl, h)
-and-true false b h = (cc, cc)
-
 last-three : (a b c d : Bool) → ((a && b) && c) && d ≡ true → (b ≡ true) × (c ≡ true) × (d ≡ true)
 last-three a b c d h =
     let x = and-true ((a && b) && c) d h in

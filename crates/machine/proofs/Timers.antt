@@ -1,5 +1,5 @@
 -- A state's deadlines on time that never wraps, and where they lie. Assumes nothing.
-use Prim.Native.Nat.{ℕ, _+_, _≤_, _<_, min}
+use Prim.Native.Nat.{ℕ, _+_, _-_, _≤_, _<_, min}
 use mathlib.Core.Path.{_≡_}
 use mathlib.Core.Bool.{Bool, true, false}
 use native.Mathlib.Omega.{arith}
@@ -48,10 +48,14 @@ each-map i q r (leased a b e false) h = (q e (h .0), r b (h .1), r a (h .2))
 abbrev Open : ℕ → ℕ → ℕ → ℕ → Type 0
 Open k B t d = (t ≤ d + k) × (d ≤ t + B)
 
+-- Less far on than the longest duration.
+abbrev nearer : ℕ
+nearer = longest - 1
+
 -- At t: no open deadline lies more than k back, and none further on than the longest duration; renew and rebind less far,
 -- so that no two lie 2^31 apart.
 abbrev pub Dated : ℕ → ℕ → Timers → Type 0
-Dated k t x = Each (Unit {0}) (Open k longest t) (Open k 1073741823 t) x
+Dated k t x = Each (Unit {0}) (Open k longest t) (Open k nearer t) x
 
 -- So near that their moments compare truly.
 abbrev pub Near : ℕ → Timers → Type 0
@@ -62,7 +66,7 @@ Coming B t d = (t < d) × (d ≤ t + B)
 
 -- Every open deadline lies ahead, as after a poll.
 abbrev pub Ahead : ℕ → Timers → Type 0
-Ahead t x = Each ⊥ (Coming longest t) (Coming 1073741823 t) x
+Ahead t x = Each ⊥ (Coming longest t) (Coming nearer t) x
 
 pub dated-later : (k y t : ℕ) (x : Timers) → Dated k t x → Dated (k + y) (t + y) x
 dated-later k y t x h = each-map (λ i. i) (λ d o. omega arith) (λ d o. omega arith) x h

@@ -1,4 +1,5 @@
 -- DHCP's entries follow what the ACK that is held gives, less any lost. Assumes nothing.
+use Prim.Native.Nat.{ℕ}
 use mathlib.Core.Path.{_≡_, refl, sym, ap, _∙_}
 use mathlib.Core.Bool.{Bool, true, false}
 use mathlib.Core.List.{List, []}
@@ -22,7 +23,7 @@ use Rattle.tables.specs.declared.apply.Installed.{Installed}
 use Rattle.tables.proofs.Origins.{same-cidr, same-cidr-self, same-router, same-router-self}
 use Rattle.client.specs.Leases.{nothing}
 use Rattle.client.proofs.Effects.{Entered}
-use Rattle.run.specs.Demand3.{Lost, unlessLost, routesBy}
+use Rattle.run.specs.Demand3.{Acked, History, heldBy, lostBy, Lost, unlessLost, routesBy}
 
 -- DHCP's entries are those that the ACK gives, less any lost.
 pub record Tab (tb : Tables) (lost : Lost) (i : Installed) : Type 0 where
@@ -66,29 +67,24 @@ module _ (tb tb′ : Tables) (lost : Lost) where
       no-routes None e = sym (if-true _ refl refl) ∙ e ∙ lost-none (lost .route)
       no-routes (Some a) e = sym (if-false _ refl refl) ∙ none-taken (otherRoutes tb)
 
-  -- what an ACK loses of what it enters
-  abbrev pub lostFor : Installed → Installed → Lost
-  lostFor new old = record {
-    addr = if sameCidr (new .address) (old .address) then lost .addr else full (otherAddrs tb);
-    route = if sameRouter (new .router) (old .router) then lost .route else full (otherRoutes tb);
-  }
-
-  pub tab-acked : (old new : Installed) → Entered tb tb′ old new → leasedRoutes (new .router) ≡ routesBy (new .router) → Tab tb lost old → Tab tb′ (lostFor new old) new
-  unfolding lessLost unlessLost if_then_else_
-  tab-acked old new n u k =
+  -- an ACK, and what it loses of what it enters
+  pub tab-acked : (l : ℕ) (h : History) (new : Installed) → Entered tb tb′ (heldBy h) new → leasedRoutes (new .router) ≡ routesBy (new .router)
+      → Tab tb lost (heldBy h) → Tab tb′ (lostBy tb (Acked l new) h lost) new
+  unfolding lostBy lessLost unlessLost if_then_else_
+  tab-acked l h new n u k =
       record {
-        addrs = n .addrs ∙ of-addrs (sameCidr (new .address) (old .address)) refl;
-        routes = n .routes ∙ of-routes (sameRouter (new .router) (old .router)) refl;
+        addrs = n .addrs ∙ of-addrs (sameCidr (new .address) (heldBy h .address)) refl;
+        routes = n .routes ∙ of-routes (sameRouter (new .router) (heldBy h .router)) refl;
       }
     where
-      of-addrs : (b : Bool) → sameCidr (new .address) (old .address) ≡ b
+      of-addrs : (b : Bool) → sameCidr (new .address) (heldBy h .address) ≡ b
           → (if b then dhcpAddrs tb else lessLost (otherAddrs tb) (leasedAddrs (new .address))) ≡ unlessLost (if b then lost .addr else full (otherAddrs tb)) (leasedAddrs (new .address))
-      of-addrs true e = k .addrs ∙ ap (λ (m : MaybeCidr). unlessLost (lost .addr) (leasedAddrs m)) (sym (same-cidr (new .address) (old .address) e))
+      of-addrs true e = k .addrs ∙ ap (λ (m : MaybeCidr). unlessLost (lost .addr) (leasedAddrs m)) (sym (same-cidr (new .address) (heldBy h .address) e))
       of-addrs false e = refl
 
-      of-routes : (b : Bool) → sameRouter (new .router) (old .router) ≡ b
+      of-routes : (b : Bool) → sameRouter (new .router) (heldBy h .router) ≡ b
           → (if b then dhcpRoutes tb else lessLost (otherRoutes tb) (leasedRoutes (new .router))) ≡ unlessLost (if b then lost .route else full (otherRoutes tb)) (routesBy (new .router))
-      of-routes true e = k .routes ∙ ap (λ (m : MaybeNumber). unlessLost (lost .route) (routesBy m)) (sym (same-router (new .router) (old .router) e))
+      of-routes true e = k .routes ∙ ap (λ (m : MaybeNumber). unlessLost (lost .route) (routesBy m)) (sym (same-router (new .router) (heldBy h .router) e))
       of-routes false e = ap (lessLost (otherRoutes tb)) u
 
 -- a router that a reply gives makes a route

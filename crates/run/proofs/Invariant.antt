@@ -230,7 +230,7 @@ module _ (s : Settings) (gp : Since) (t : ℕ) (c : Client) (tb : Tables) (g : R
         settings-are = n .settings ∙ i .settings-are;
         given-is = q;
         tab =
-            tab-acked tb tb′ lost (heldBy h) (givenBy bytes)
+            tab-acked tb tb′ lost (lease bytes) h (givenBy bytes)
             (subst (λ (k : Installed). Entered tb tb′ k (givenBy bytes)) (i .given-is) (subst (Entered tb tb′ (gives c)) q (n .entries)))
             (routed (addressOf (optionData routerCode bytes))) (i .tab);
       }

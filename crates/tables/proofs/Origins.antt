@@ -162,7 +162,7 @@ whole-applied t new old f h =
     (whole-routes-leased (t .routes) (new .router) (sameRouter (new .router) (old .router)) (p .1))
 
 -- values are the same exactly if they are equal
-and-true : (a b : Bool) → a && b ≡ true → (a ≡ true) × (b ≡ true)
+pub and-true : (a b : Bool) → a && b ≡ true → (a ≡ true) × (b ≡ true)
 and-true true b h = (refl, h)
 and-true false b h = (cc, cc)
 
