@@ -29,6 +29,7 @@ mod read;
 mod record;
 mod replies;
 mod run;
+mod season;
 mod show;
 mod write;
 
@@ -53,6 +54,7 @@ const USAGE: &str = "usage: oracle answer                     answers the calls 
        oracle boundaries KIND            writes calls round the limits: KIND is creations, replies, polls or wire
        oracle check SEED COUNT [FAULT]   compares that many calls with the papers, and asks demand 3 of the Rust; FAULT, a
                                          wrong expectation that must be found, is late-expiry, lost-returns or early-waking
+       oracle season                     runs a whole season with the Rust's client, and prints what came of it
 A list of calls comes on standard input, and docs/TRACE.md says how it is written. Exit status: 0, or 1 where a record is
 malformed, an expectation or the demand does not hold, or 2 where the command is wrong.";
 
@@ -69,6 +71,7 @@ fn main() -> ExitCode {
         ["show"] => show(),
         ["generate", kind, seed, count] => lists::generate(kind, seed, count),
         ["boundaries", kind] => lists::boundaries(kind),
+        ["season"] => season::season(),
         ["check", seed, count] => check::check(seed, count, "none"),
         ["check", seed, count, fault] => check::check(seed, count, fault),
         _ => {

@@ -284,16 +284,20 @@ impl Post {
     }
 
     pub fn poll(&mut self, step: u32, length: u16, fill: u8) -> Polled {
-        self.plain.moment = self.plain.moment.wrapping_add(step);
-        let length = length as usize;
         self.plain.buffer.clear();
-        self.plain.buffer.extend((0..length).map(|place| lent(fill, place)));
+        self.plain.buffer.extend((0..length as usize).map(|place| lent(fill, place)));
+        self.poll_lent(step)
+    }
+
+    /// A poll that is lent the buffer as it stands in `plain`.
+    pub fn poll_lent(&mut self, step: u32) -> Polled {
+        self.plain.moment = self.plain.moment.wrapping_add(step);
         if !self.whole() {
             return Polled { number: 9, ..Polled::default() };
         }
         self.load();
         self.begin();
-        self.pool.put((length > 0).then(|| {
+        self.pool.put((!self.plain.buffer.is_empty()).then(|| {
             let mut storage = vec![0; HEADROOM];
             storage.extend_from_slice(&self.plain.buffer);
             storage
@@ -317,7 +321,7 @@ impl Post {
         answer
     }
 
-    fn process(&mut self, step: u32, source: Address, reply: &[u8]) -> Taken {
+    pub fn process(&mut self, step: u32, source: Address, reply: &[u8]) -> Taken {
         self.plain.moment = self.plain.moment.wrapping_add(step);
         if !self.whole() {
             return Taken { number: 9, purge: false };

@@ -1,7 +1,7 @@
 //! Messages in words, for whoever reads a record.
 use crate::message::{self, HEADER};
 
-fn dotted(address: &[u8]) -> String {
+pub fn dotted(address: &[u8]) -> String {
     address.iter().map(u8::to_string).collect::<Vec<_>>().join(".")
 }
 

@@ -24,23 +24,24 @@ use Rattle.tables.specs.declared.tables.Tables.{Tables}
 use Rattle.tables.specs.declared.apply.MaybeCidr.the-variants.{Cidr}
 use Rattle.tables.specs.declared.apply.Installed.{Installed}
 use Rattle.tables.proofs.Origins.{and-true, own-addrs-applied, own-routes-applied, same-cidr, same-cidr-self, same-router, same-router-self}
-use Rattle.client.specs.Leases.{noLease, sameTerms, sameAddresses, sameLease, installed, nothing}
+use Rattle.lease.specs.Leases.{noLease, sameTerms, sameAddresses, sameLease, installed, nothing}
 use Rattle.client.specs.Clients.{inState}
 use Rattle.client.specs.Resets.{wholeAll, cleared, wasReset}
-use Rattle.client.specs.Judged.{recipientOf, judged}
-use Rattle.client.specs.Taken.{holds, heldBy, boundBy, ackLease, ackedAs, acked, entered, replied, processed}
+use Rattle.judge.specs.Judged.{judged}
+use Rattle.lease.specs.Bound.{boundBy}
+use Rattle.client.specs.Taken.{recipientOf, holds, heldBy, ackLease, ackedAs, acked, entered, replied, processed}
 use Rattle.client.specs.Polls.{moved}
-use Rattle.client.specs.declared.settings.Settings.{Settings}
-use Rattle.client.specs.declared.lease.DhcpLease.{DhcpLease}
+use Rattle.settings.specs.declared.settings.Settings.{Settings}
+use Rattle.lease.specs.declared.lease.DhcpLease.{DhcpLease}
 use Rattle.client.specs.declared.client.Client.{Client}
-use Rattle.client.specs.declared.judge.Acked.{Acked}
-use Rattle.client.specs.declared.judge.Verdict.{Verdict}
-use Rattle.client.specs.declared.judge.Verdict.the-variants.{Offer, Ack, Nak, PassedOver}
+use Rattle.judge.specs.declared.judge.Acked.{Acked}
+use Rattle.judge.specs.declared.judge.Verdict.{Verdict}
+use Rattle.judge.specs.declared.judge.Verdict.the-variants.{Offer, Ack, Nak, PassedOver}
 use Rattle.client.specs.declared.reset.Settled.{Settled}
 use Rattle.client.specs.declared.reset.WasReset.{WasReset}
 use Rattle.client.specs.declared.process.Processed.{Processed}
 use Rattle.client.proofs.Unchanged.{wasTaken, wasMade}
-use Rattle.client.proofs.Verdicts.{Reads, begun, Says, judged-says}
+use Rattle.judge.proofs.Verdicts.{Reads, begun, Says, judged-says}
 
 -- DHCP's entries after a change of what the lease gives: the new ones, less any lost, where the value changed.
 pub record Entered (t t′ : Tables) (old new : Installed) : Type 0 where

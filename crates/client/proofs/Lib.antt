@@ -1,10 +1,7 @@
 pub mod Made
 pub mod Settling
-pub mod Refusals
-pub mod Numbers
+pub mod Sendings
 pub mod Wholes
 pub mod Unchanged
-pub mod Order
-pub mod Verdicts
 pub mod Effects
 pub mod Polling

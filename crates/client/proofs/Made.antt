@@ -1,37 +1,20 @@
--- Leases and clients put together of their parts. Assumes nothing.
+-- Clients put together of their parts. Assumes nothing.
 use Prim.Native.Nat.{ℕ}
 use mathlib.Core.Path.{_≡_, refl}
-use mathlib.Core.Bool.{Bool, false, _&&_}
-use lib.ListN.{replicate}
-use Rattle.octets.specs.declared.number.MaybeNumber.{MaybeNumber}
-use Rattle.octets.specs.declared.number.MaybeNumber.the-variants.{None}
-use Rattle.wire.specs.Readings.{router}
-use Rattle.wire.specs.Stored.{emptyStore, sameOptions}
-use Rattle.wire.specs.declared.reply.Addresses.{Addresses}
-use Rattle.wire.specs.declared.store.Store.{Store}
+use mathlib.Core.Bool.{Bool, false}
 use Rattle.machine.specs.declared.state.ClientState.the-variants.{Init}
-use Rattle.machine.specs.declared.state.DhcpServerInfo.{DhcpServerInfo}
 use Rattle.tables.specs.declared.lookup.Has.{Has}
 use Rattle.tables.specs.declared.tables.Tables.{Tables}
-use Rattle.client.specs.Settings.{noSettings}
-use Rattle.client.specs.Leases.{noLease, sameTerms, sameAddresses, sameLease}
+use Rattle.settings.specs.Settings.{noSettings}
+use Rattle.lease.specs.Leases.{noLease}
 use Rattle.client.specs.Clients.{fresh, noClient, inState}
 use Rattle.client.specs.Resets.{restarted}
 use Rattle.client.specs.Lookups.{notHeld}
-use Rattle.client.specs.declared.settings.Settings.{Settings}
-use Rattle.client.specs.declared.lease.DhcpLease.{DhcpLease}
+use Rattle.settings.specs.declared.settings.Settings.{Settings}
+use Rattle.lease.specs.declared.lease.DhcpLease.{DhcpLease}
 use Rattle.client.specs.declared.client.Client.{Client}
 use Rattle.client.specs.declared.lookup.Leased.{Leased}
 use Rattle.client.specs.declared.reset.Settled.{Settled}
-
-abbrev lease : DhcpServerInfo → ℕ → ℕ → MaybeNumber → Addresses → Store → DhcpLease
-lease server address prefix router dns options = record { server = server; address = address; prefix = prefix; router = router; dns = dns; options = options }
-
-pub zero-lease : {s : Store} → s ≡ emptyStore → lease (record { address = 0; identifier = 0 }) 0 0 None (record { list = replicate 3 0; count = 0 }) s ≡ noLease
-zero-lease e = rw e refl
-
-pub lease-same : (a b : DhcpLease) {x y z : Bool} → x ≡ sameTerms a b → y ≡ sameAddresses (a .dns) (b .dns) → z ≡ sameOptions (a .options) (b .options) → (x && y) && z ≡ sameLease a b
-lease-same a b e f g = rw (e, f, g) refl
 
 abbrev client : Settings → Bool → DhcpLease → ℕ → Client
 client settings ignoring l id = record { settings = settings; «ignore_naks» = ignoring; state = Init; lease = l; «transaction_id» = id }

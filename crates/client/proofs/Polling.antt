@@ -6,17 +6,13 @@ use mathlib.Core.Bool.{Bool, true, false, not, false≢true}
 use mathlib.Core.List.{List}
 use native.Mathlib.Omega.{arith}
 use lib.ListN.{length, length-append}
-use lib.Dec.{ltb}
-use borrow.Author.Tests.{ltb-false}
 use Rattle.clock.proofs.Choices.{if-true, if-false, if-cases}
 use Rattle.clock.specs.declared.instant.Instant.{Instant}
 use Rattle.clock.specs.declared.rand.Rand.{Rand}
 use Rattle.clock.specs.declared.waits.Waits.{Waits}
-use Rattle.octets.specs.Items.{wholeItems}
 use Rattle.octets.specs.declared.number.MaybeNumber.{MaybeNumber}
 use Rattle.octets.specs.declared.number.MaybeNumber.the-variants.{None, Some}
 use Rattle.message.specs.Messages.{message, addressOption}
-use Rattle.message.specs.Written.{nameLimit, extraLimit, listFits}
 use Rattle.message.proofs.Messages.{address-most}
 use Rattle.message.proofs.Datagrams.{datagram-length}
 use Rattle.machine.specs.States.{hasLease}
@@ -27,16 +23,17 @@ use Rattle.machine.specs.declared.poll.Sending.the-variants.{Discover, Request,
 use Rattle.machine.specs.declared.poll.Due.{Due}
 use Rattle.machine.specs.declared.poll.Due.the-variants.{Nothing, Send}
 use Rattle.tables.specs.declared.tables.Tables.{Tables}
-use Rattle.client.specs.Settings.{extraOf, messageOf, request, longest, longestLength, overCap, isEthernet, sizeRefusal, listsRefusal, refusalOf}
-use Rattle.client.specs.Leases.{wholeLease}
+use Rattle.settings.specs.Settings.{messageOf, request, longest, longestLength}
+use Rattle.lease.specs.Leases.{wholeLease}
 use Rattle.client.specs.Clients.{leaseFits, wholeClient}
 use Rattle.client.specs.Resets.{wholeAll, cleared}
 use Rattle.client.specs.Polls.{PolledInto, discover, unspecified, idOf, routeOf, bodyOf, datagramOf, awaiting, moved, refusedBy, passedBy, tooShort, sent, polledAs, polledBy, polled}
-use Rattle.client.specs.declared.settings.Settings.{Settings}
+use Rattle.settings.specs.declared.settings.Settings.{Settings}
 use Rattle.client.specs.declared.client.Client.{Client}
 use Rattle.client.specs.declared.poll.PollAnswer.{PollAnswer}
 use Rattle.client.specs.declared.poll.PollOutcome.{PollOutcome}
 use Rattle.client.specs.declared.poll.PollOutcome.the-variants.{Answered, Refused}
+use Rattle.settings.proofs.Refusals.{unrefused}
 use Rattle.client.proofs.Wholes.{settings-whole, lease-fits, unread-fits, read-fits, parts-whole, all-whole, all-parts, cleared-whole}
 use Rattle.client.proofs.Effects.{Fitting}
 
@@ -86,27 +83,6 @@ module _ (s : Settings) (kind id client : ℕ) (requested server : MaybeNumber) 
   unfolding message
   some-length = simp length-append (omega arith)
 
-refuted : {X : Type 0} (n : ℕ) → Some n ≡ None → X
-refuted n e = absurd (let z : _≡_ {A = ℕ} 0 1 = cc in omega arith)
-
--- settings that are not refused leave room for the longest
-longest-fits : (s : Settings) → refusalOf s ≡ None → (longestLength s ≤ s .mtu - 28) × (576 ≤ s .mtu)
-unfolding refusalOf listsRefusal sizeRefusal
-longest-fits s =
-    if-cases Fits (not (isEthernet (s .medium))) (λ a. refuted _)
-    (λ a. if-cases Fits (ltb (s .mtu) 576) (λ b. refuted _)
-    (λ b. if-cases Fits (ltb 1500 (s .mtu)) (λ c. refuted _)
-    (λ c. if-cases Fits (ltb nameLimit (s .«name_len»)) (λ d. refuted _)
-    (λ d. if-cases Fits (not (listFits (s .listed) (s .«list_len»))) (λ f. refuted _)
-    (λ f. if-cases Fits (ltb extraLimit (s .«extra_len»)) (λ g. refuted _)
-    (λ g. if-cases Fits (not (wholeItems (extraOf s))) (λ h. refuted _)
-    (λ h. if-cases Fits (overCap s) (λ i. refuted _)
-    (λ i. if-cases Fits (ltb (s .mtu - 28) (longestLength s)) (λ j. refuted _)
-    (λ j e. (ltb-false _ _ j, ltb-false _ _ b))))))))))
-  where
-    Fits : MaybeNumber → Type 0
-    Fits m = m ≡ None → (longestLength s ≤ s .mtu - 28) × (576 ≤ s .mtu)
-
 module _ (c : Client) (h : wholeClient c ≡ true) where
   body-fits : (id : ℕ) (s : Sending) → (0 < length (bodyOf c id s)) × (length (bodyOf c id s) ≤ longestLength (c .settings))
   body-fits id (Discover s) = (some-length (c .settings) discover id unspecified None None _ _ _, below-longest (c .settings) discover id unspecified None None _ _ _)
@@ -118,7 +94,9 @@ module _ (c : Client) (h : wholeClient c ≡ true) where
   unfolding datagramOf
   datagram-fits g s =
       let b = body-fits (idOf c g s) s in
-      let l = longest-fits (c .settings) (settings-whole c h) in
+      let l = unrefused (c .settings) (settings-whole c h) in
+      let m = l .counted .mtu in
+      let r = l .room in
       rw (datagram-length (routeOf c s) (bodyOf c (idOf c g s) s)) (omega arith, omega arith)
 
 module _ (c : Client) (t : Tables) (h : wholeAll c t ≡ true) (g : Rand) (buffer : List ℕ) (wake : Instant) where

@@ -4,44 +4,34 @@ use mathlib.Core.Bool.{Bool, true, false, not}
 use mathlib.Core.List.{List}
 use Prim.Native.Nat.{ℕ}
 use Rattle.clock.proofs.Choices.{if-true, if-false}
-use Rattle.clock.specs.Durations.{duration}
-use Rattle.clock.specs.declared.duration.Duration.{Duration}
-use Rattle.clock.specs.declared.duration.MaybeDuration.{MaybeDuration}
 use Rattle.clock.specs.declared.instant.Instant.{Instant}
 use Rattle.octets.specs.declared.number.MaybeNumber.{MaybeNumber}
 use Rattle.octets.specs.declared.number.MaybeNumber.the-variants.{None, Some}
-use Rattle.wire.specs.Options.{optionData}
-use Rattle.wire.specs.Readings.{headerCheck, messageType, secondsOf}
-use Rattle.wire.specs.declared.reply.Checked.{Checked}
-use Rattle.wire.specs.declared.reply.Checked.the-variants as check
-use Rattle.machine.specs.Times.{leaseTime, timesOf}
-use Rattle.machine.specs.States.{awaited, requesting, renewing}
+use Rattle.machine.specs.States.{requesting}
 use Rattle.machine.specs.declared.state.ClientState.{ClientState}
-use Rattle.machine.specs.declared.state.Awaited.{Awaited}
 use Rattle.machine.specs.declared.state.DhcpServerInfo.{DhcpServerInfo}
-use Rattle.machine.specs.declared.times.Row.{Row}
-use Rattle.machine.specs.declared.times.Times.{Times}
 use Rattle.tables.specs.Applied.{applied}
 use Rattle.tables.specs.declared.tables.Tables.{Tables}
 use Rattle.tables.specs.declared.apply.Installed.{Installed}
 use Rattle.tables.specs.declared.apply.Applied.{Applied}
 use Rattle.tables.specs.declared.manual.Outcome.{Outcome}
 use Rattle.tables.specs.declared.manual.Outcome.the-variants.{Done, Refused}
-use Rattle.client.specs.Settings.{refusalOf, maximumOf}
+use Rattle.settings.specs.Settings.{refusalOf}
 use Rattle.client.specs.Clients.{fresh, noClient, created, inState}
 use Rattle.client.specs.Resets.{wholeAll, cleared, resetDone, wasReset}
-use Rattle.client.specs.Judged.{needing, judgedAs, judgedKind, judgedSender, judged, recipientOf}
-use Rattle.client.specs.Taken.{leaseTimeCode, replyRow, boundBy, serverOf, holds, entered, ackLease, ackedAs, acked, takenAs, replied, processed}
-use Rattle.client.specs.declared.settings.Settings.{Settings}
-use Rattle.client.specs.declared.lease.DhcpLease.{DhcpLease}
+use Rattle.judge.specs.Judged.{judged}
+use Rattle.lease.specs.Bound.{boundBy}
+use Rattle.client.specs.Taken.{recipientOf, serverOf, holds, entered, ackLease, ackedAs, acked, takenAs, replied, processed}
+use Rattle.settings.specs.declared.settings.Settings.{Settings}
+use Rattle.lease.specs.declared.lease.DhcpLease.{DhcpLease}
 use Rattle.client.specs.declared.client.Client.{Client}
 use Rattle.client.specs.declared.client.Created.{Created}
-use Rattle.client.specs.Leases.{leaseOf}
-use Rattle.client.specs.declared.judge.Acked.{Acked}
-use Rattle.client.specs.declared.judge.Offered.{Offered}
-use Rattle.client.specs.declared.judge.Recipient.{Recipient}
-use Rattle.client.specs.declared.judge.Verdict.{Verdict}
-use Rattle.client.specs.declared.judge.Verdict.the-variants.{Offer, Ack, Nak, PassedOver}
+use Rattle.lease.specs.Leases.{leaseOf}
+use Rattle.judge.specs.declared.judge.Acked.{Acked}
+use Rattle.judge.specs.declared.judge.Offered.{Offered}
+use Rattle.judge.specs.declared.judge.Recipient.{Recipient}
+use Rattle.judge.specs.declared.judge.Verdict.{Verdict}
+use Rattle.judge.specs.declared.judge.Verdict.the-variants.{Offer, Ack, Nak, PassedOver}
 use Rattle.client.specs.declared.reset.Settled.{Settled}
 use Rattle.client.specs.declared.reset.WasReset.{WasReset}
 use Rattle.client.specs.declared.process.Processed.{Processed}
@@ -66,39 +56,6 @@ module _ (s : Settings) (ignoring : Bool) {c : Client} {m : MaybeNumber} where
   pub made-none : {n : ℕ} → m ≡ refusalOf s → m ≡ Some n → c ≡ noClient → made c (Refused n) ≡ created s ignoring
   unfolding created
   made-none e f h = rw (sym e, f, h) refl
-
--- a value that has to be there
-module _ {m : MaybeNumber} (number : ℕ) (next : ℕ → Verdict) where
-  pub needing-none : m ≡ None → PassedOver number ≡ needing m number next
-  unfolding needing
-  needing-none e = rw e refl
-
-  pub needing-some : {n : ℕ} {v : Verdict} → m ≡ Some n → v ≡ next n → v ≡ needing m number next
-  unfolding needing
-  needing-some e f = rw e f
-
--- the header
-module _ (who : Recipient) (source : ℕ) (reply : List ℕ) {k : Checked} (e : k ≡ headerCheck reply) where
-  pub header-passed-over : {n : ℕ} → k ≡ check.PassedOver n → PassedOver n ≡ judged who source reply
-  unfolding judged
-  header-passed-over f = rw (sym e, f) refl
-
-  pub header-passes : {v : Verdict} → k ≡ check.Passes → v ≡ needing (messageType reply) 22 (judgedSender who source reply) → v ≡ judged who source reply
-  unfolding judged
-  header-passes f h = rw (sym e, f) h
-
--- what a reply is to the state
-pub judged-as : (who : Recipient) (source : ℕ) (reply : List ℕ) (kind identifier : ℕ) (what : Awaited) {a : Awaited} {v : Verdict} → a ≡ awaited (who .state) kind (who .ignoring) → a ≡ what
-    → v ≡ judgedAs what (record { address = source; identifier = identifier }) reply → v ≡ judgedKind who source reply kind identifier
-unfolding judgedKind
-judged-as who source reply kind identifier what e f h = rw (sym e, f) h
-
--- the moments of an ACK
-pub bound-times : (settings : Settings) (reply : List ℕ) (moment : Instant) {most : MaybeDuration} {said : MaybeNumber} {lease : Duration} {row : Row} {times : Times} {r : ClientState}
-    → most ≡ maximumOf settings → said ≡ secondsOf (optionData leaseTimeCode reply) → lease ≡ duration (leaseTime said most)
-    → row ≡ replyRow reply (lease .millis) → times ≡ timesOf row (lease .millis) → r ≡ renewing times lease moment → r ≡ boundBy settings reply moment
-unfolding boundBy
-bound-times settings reply moment e f g h i j = rw (j, i, h, g, f, e) refl
 
 -- an ACK
 abbrev kept : Client → Tables → Settled

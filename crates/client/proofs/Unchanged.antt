@@ -7,11 +7,11 @@ use Rattle.clock.proofs.Choices.{if-cases}
 use Rattle.clock.specs.declared.instant.Instant.{Instant}
 use Rattle.tables.specs.declared.tables.Tables.{Tables}
 use Rattle.client.specs.Resets.{wholeAll, wasReset}
-use Rattle.client.specs.Judged.{recipientOf, judged}
-use Rattle.client.specs.Taken.{replied, processed}
+use Rattle.judge.specs.Judged.{judged}
+use Rattle.client.specs.Taken.{recipientOf, replied, processed}
 use Rattle.client.specs.declared.client.Client.{Client}
-use Rattle.client.specs.declared.judge.Verdict.{Verdict}
-use Rattle.client.specs.declared.judge.Verdict.the-variants.{Offer, Ack, Nak, PassedOver}
+use Rattle.judge.specs.declared.judge.Verdict.{Verdict}
+use Rattle.judge.specs.declared.judge.Verdict.the-variants.{Offer, Ack, Nak, PassedOver}
 use Rattle.client.specs.declared.reset.WasReset.{WasReset}
 use Rattle.client.specs.declared.reset.ResetOutcome.{ResetOutcome}
 use Rattle.client.specs.declared.reset.ResetOutcome.the-variants as reset

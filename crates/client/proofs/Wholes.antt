@@ -9,87 +9,38 @@ use lib.ListN.{length-take}
 use borrow.Author.Tests.{le-ltb, le-leb}
 use Rattle.clock.proofs.Choices.{if-true, if-false, if-cases, both-true}
 use Rattle.clock.specs.declared.instant.Instant.{Instant}
-use Rattle.octets.specs.Addresses.{unicast}
-use Rattle.octets.proofs.Masks.{length-bound}
 use Rattle.octets.specs.declared.number.MaybeNumber.{MaybeNumber}
 use Rattle.octets.specs.declared.number.MaybeNumber.the-variants.{None, Some}
 use Rattle.wire.specs.Options.{optionData}
-use Rattle.wire.specs.Readings.{headerCheck, addressedTo, transactionId, messageType, addressesOf, unicastOnes, groupsOf}
-use Rattle.wire.specs.declared.reply.Checked.{Checked}
-use Rattle.wire.specs.declared.reply.Checked.the-variants as check
+use Rattle.wire.specs.Readings.{addressesOf, unicastOnes, groupsOf}
 use Rattle.wire.proofs.Stores.{store-sound}
-use Rattle.machine.specs.States.{hasLease, awaited}
+use Rattle.machine.specs.States.{hasLease}
 use Rattle.machine.specs.declared.state.ClientState.{ClientState}
 use Rattle.machine.specs.declared.state.ClientState.the-variants.{Init}
 use Rattle.machine.specs.declared.state.DhcpServerInfo.{DhcpServerInfo}
-use Rattle.machine.specs.declared.state.Awaited.{Awaited}
-use Rattle.machine.specs.declared.state.Awaited.the-variants as awaits
 use Rattle.tables.specs.Entries.{all}
 use Rattle.tables.specs.Tables.{addrFits, wholeTables}
 use Rattle.tables.specs.Applied.{leasedAddr}
 use Rattle.tables.specs.declared.tables.Tables.{Tables}
 use Rattle.tables.proofs.Origins.{whole-applied}
 use Rattle.tables.proofs.Lists.{all-takes}
-use Rattle.client.specs.Settings.{refusalOf}
-use Rattle.client.specs.Leases.{noLease, dnsCode, leaseOf, wholeLease, installed, nothing}
+use Rattle.settings.specs.Settings.{refusalOf}
+use Rattle.lease.specs.Leases.{noLease, dnsCode, leaseOf, wholeLease, installed, nothing}
 use Rattle.client.specs.Clients.{inState, fresh, created, leaseFits, wholeOr, wholeClient}
 use Rattle.client.specs.Resets.{wholeAll, restarted, dropped, cleared, wasReset}
-use Rattle.client.specs.Judged.{needing, judgedOffer, judgedAddress, judgedAck, judgedAs, judgedKind, isId, judgedSender, afterHeader, judged, recipientOf}
-use Rattle.client.specs.Taken.{serverOf, holds, heldBy, boundBy, ackLease, ackedAs, acked, entered, offered, replied, processed}
-use Rattle.client.specs.declared.settings.Settings.{Settings}
-use Rattle.client.specs.declared.lease.DhcpLease.{DhcpLease}
+use Rattle.judge.specs.Judged.{judged}
+use Rattle.judge.proofs.Judging.{Fits, judged-fits}
+use Rattle.lease.specs.Bound.{boundBy}
+use Rattle.client.specs.Taken.{recipientOf, serverOf, holds, heldBy, ackLease, ackedAs, acked, entered, offered, replied, processed}
+use Rattle.settings.specs.declared.settings.Settings.{Settings}
+use Rattle.lease.specs.declared.lease.DhcpLease.{DhcpLease}
 use Rattle.client.specs.declared.client.Client.{Client}
-use Rattle.client.specs.declared.judge.Recipient.{Recipient}
-use Rattle.client.specs.declared.judge.Acked.{Acked}
-use Rattle.client.specs.declared.judge.Verdict.{Verdict}
-use Rattle.client.specs.declared.judge.Verdict.the-variants.{Offer, Ack, Nak, PassedOver}
+use Rattle.judge.specs.declared.judge.Acked.{Acked}
+use Rattle.judge.specs.declared.judge.Verdict.{Verdict}
+use Rattle.judge.specs.declared.judge.Verdict.the-variants.{Offer, Ack, Nak, PassedOver}
 use Rattle.client.specs.declared.reset.Settled.{Settled}
 use Rattle.client.specs.declared.reset.WasReset.{WasReset}
 use Rattle.client.specs.declared.process.Processed.{Processed}
-
--- what holds of both outcomes of a value that has to be there
-pub needing-cases : (P : Verdict → Type 0) {m : MaybeNumber} (number : ℕ) (next : ℕ → Verdict) → P (PassedOver number) → ((n : ℕ) → m ≡ Some n → P (next n)) → P (needing m number next)
-unfolding needing
-needing-cases P {m = None} number next p f = p
-needing-cases P {m = Some n} number next p f = f n refl
-
--- an ACK that is taken has a prefix that fits
-abbrev pub Fits : Verdict → Type 0
-Fits (Offer o) = Unit {0}
-Fits (Ack a) = a .prefix ≤ 32
-Fits Nak = Unit {0}
-Fits (PassedOver n) = Unit {0}
-
-offer-fits : (server : DhcpServerInfo) (reply : List ℕ) → Fits (judgedOffer server reply)
-unfolding judgedOffer
-offer-fits server reply = needing-cases Fits _ _ tt (λ a e. if-cases Fits (not (unicast (server .address))) (λ t. tt) (λ t. tt))
-
-ack-fits : (server : DhcpServerInfo) (reply : List ℕ) → Fits (judgedAck server reply)
-unfolding judgedAck judgedAddress
-ack-fits server reply =
-    needing-cases Fits _ _ tt (λ mask e.
-    needing-cases Fits _ _ tt (λ prefix f.
-    needing-cases Fits _ _ tt (λ address g. length-bound 32 mask prefix f)))
-
-as-fits : (a : Awaited) (server : DhcpServerInfo) (reply : List ℕ) → Fits (judgedAs a server reply)
-as-fits awaits.Offer server reply = offer-fits server reply
-as-fits awaits.Ack server reply = ack-fits server reply
-as-fits awaits.Nak server reply = tt
-as-fits awaits.Nothing server reply = tt
-
-pub judged-fits : (who : Recipient) (source : ℕ) (reply : List ℕ) → Fits (judged who source reply)
-unfolding judged judgedSender judgedKind
-judged-fits who source reply = header (headerCheck reply)
-  where
-    sender : (kind : ℕ) → Fits (judgedSender who source reply kind)
-    sender kind =
-        if-cases Fits (not (addressedTo (who .hardware) reply)) (λ t. tt)
-        (λ t. if-cases Fits (not (isId (who .id) (transactionId reply))) (λ u. tt)
-        (λ u. needing-cases Fits _ _ tt (λ identifier e. as-fits (awaited (who .state) kind (who .ignoring)) (record { address = source; identifier = identifier }) reply)))
-
-    header : (k : Checked) → Fits (afterHeader k (needing (messageType reply) 22 (judgedSender who source reply)))
-    header (check.PassedOver n) = tt
-    header check.Passes = needing-cases Fits _ _ tt (λ kind e. sender kind)
 
 -- the lease of such an ACK is whole
 few-addresses : (body : Option (List ℕ)) → addressesOf body .count ≤ 3

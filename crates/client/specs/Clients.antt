@@ -7,10 +7,10 @@ use Rattle.machine.specs.States.{hasLease}
 use Rattle.machine.specs.declared.state.ClientState.{ClientState}
 use Rattle.machine.specs.declared.state.ClientState.the-variants.{Init}
 use Rattle.tables.specs.declared.manual.Outcome.the-variants.{Done, Refused}
-use Rattle.client.specs.Settings.{noSettings, refusalOf}
-use Rattle.client.specs.Leases.{noLease, wholeLease}
-use Rattle.client.specs.declared.settings.Settings.{Settings}
-use Rattle.client.specs.declared.lease.DhcpLease.{DhcpLease}
+use Rattle.settings.specs.Settings.{noSettings, refusalOf}
+use Rattle.lease.specs.Leases.{noLease, wholeLease}
+use Rattle.settings.specs.declared.settings.Settings.{Settings}
+use Rattle.lease.specs.declared.lease.DhcpLease.{DhcpLease}
 use Rattle.client.specs.declared.client.Client.{Client}
 use Rattle.client.specs.declared.client.Created.{Created}
 

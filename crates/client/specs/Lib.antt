@@ -1,8 +1,5 @@
-pub mod Settings
-pub mod Leases
 pub mod Clients
 pub mod Resets
-pub mod Judged
 pub mod Taken
 pub mod Polls
 pub mod Lookups

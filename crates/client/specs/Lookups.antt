@@ -8,7 +8,7 @@ use Rattle.wire.specs.declared.store.Got.the-variants as found
 use Rattle.machine.specs.States.{hasLease}
 use Rattle.tables.specs.declared.lookup.Has.{Has}
 use Rattle.tables.specs.declared.lookup.Has.the-variants as has
-use Rattle.client.specs.Leases.{noLease}
+use Rattle.lease.specs.Leases.{noLease}
 use Rattle.client.specs.Clients.{wholeClient}
 use Rattle.client.specs.declared.client.Client.{Client}
 use Rattle.client.specs.declared.lookup.Leased.{Leased}

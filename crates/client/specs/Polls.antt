@@ -9,6 +9,7 @@ use Rattle.clock.specs.Choice.{if_then_else_}
 use Rattle.clock.specs.Generator.{drawn32}
 use Rattle.clock.specs.declared.instant.Instant.{Instant}
 use Rattle.clock.specs.declared.rand.Rand.{Rand}
+use Rattle.clock.specs.declared.rand.Drawn32.{Drawn32}
 use Rattle.clock.specs.declared.waits.Waits.{Waits}
 use Rattle.octets.specs.Runs.{over}
 use Rattle.octets.specs.declared.number.MaybeNumber.the-variants.{None, Some}
@@ -24,7 +25,7 @@ use Rattle.machine.specs.declared.poll.Due.{Due}
 use Rattle.machine.specs.declared.poll.Due.the-variants.{Nothing, Send}
 use Rattle.machine.specs.declared.poll.Decision.{Decision}
 use Rattle.tables.specs.declared.tables.Tables.{Tables}
-use Rattle.client.specs.Settings.{nameOf, listOf, extraOf, messageOf, request}
+use Rattle.settings.specs.Settings.{nameOf, listOf, extraOf, messageOf, request}
 use Rattle.client.specs.Resets.{wholeAll, cleared}
 use Rattle.client.specs.declared.client.Client.{Client}
 use Rattle.client.specs.declared.reset.Settled.{Settled}
@@ -55,6 +56,9 @@ idOf c g sending = if draws sending then drawn32 g .value else c .«transaction_
 
 unfoldable pub randAfter : Rand → Sending → Rand
 randAfter g sending = if draws sending then drawn32 g .rand else g
+
+abbrev pub drawnFor : Client → Rand → Sending → Drawn32
+drawnFor c g sending = record { rand = randAfter g sending; value = idOf c g sending }
 
 -- The fields of a message: "50 and 54 in Requesting only"; "Renewing sets the client address".
 abbrev pub fieldsOf : Client → ℕ → Sending → Message
@@ -116,34 +120,50 @@ refusedBy c t g buffer number = record {
 }
 
 -- Nothing is due: all is as it came, "length, source and destination address (all 0 if none was built)".
-abbrev pub silent : Instant → Bool → PollAnswer
-silent wake purge = record { length = 0; source = 0; destination = 0; wake = wake; purge = purge }
+abbrev pub silent : Instant → PollAnswer
+silent wake = record { length = 0; source = 0; destination = 0; wake = wake; purge = false }
 
 abbrev pub passedBy : Client → Tables → Rand → List ℕ → Instant → PolledInto
 passedBy c t g buffer wake = record {
-  polled = record { client = c; tables = t; rand = g; outcome = Answered (silent wake false) };
+  polled = record { client = c; tables = t; rand = g; outcome = Answered (silent wake) };
   buffer = buffer;
 }
 
 -- A message is built: "from byte 0 of the lent buffer", and "bytes after the datagram keep their value". "An empty buffer
 -- stands for an exhausted pool: the state moves, nothing is built."
-abbrev pub builtInto : List ℕ → Route → List ℕ → Instant → Bool → PollAnswer
-builtInto [] route out wake purge = silent wake purge
-builtInto (x ∷ xs) route out wake purge =
-    record { length = length out; source = route .source; destination = route .destination; wake = wake; purge = purge }
+abbrev pub built : ℕ → Route → Instant → PollAnswer
+built size route wake =
+    record { length = size; source = route .source; destination = route .destination; wake = wake; purge = false }
+
+abbrev pub builtInto : List ℕ → Route → List ℕ → Instant → PollAnswer
+builtInto [] route out wake = silent wake
+builtInto (x ∷ xs) route out wake = built (length out) route wake
 
 abbrev pub bufferWith : List ℕ → List ℕ → List ℕ
 bufferWith [] out = []
 bufferWith (x ∷ xs) out = over out (x ∷ xs)
 
+-- What is left once it is sent, and the answer: the state that follows, the message's id and the generator after it.
+abbrev pub purging : PollAnswer → Bool → PollAnswer
+purging answer purge = record {
+  length = answer .length;
+  source = answer .source;
+  destination = answer .destination;
+  wake = answer .wake;
+  purge = purge;
+}
+
+abbrev pub settledBy : Client → Tables → Drawn32 → Sending → PollAnswer → Polled
+settledBy c t drawn sending answer = record {
+  client = awaiting (madeReady c t sending .client) (following sending) (drawn .value);
+  tables = madeReady c t sending .tables;
+  rand = drawn .rand;
+  outcome = Answered (purging answer (madeReady c t sending .purge));
+}
+
 abbrev pub moved : Client → Tables → Rand → List ℕ → Instant → Sending → PolledInto
 moved c t g buffer wake sending = record {
-  polled = record {
-    client = awaiting (madeReady c t sending .client) (following sending) (idOf c g sending);
-    tables = madeReady c t sending .tables;
-    rand = randAfter g sending;
-    outcome = Answered (builtInto buffer (routeOf c sending) (datagramOf c g sending) wake (madeReady c t sending .purge));
-  };
+  polled = settledBy c t (drawnFor c g sending) sending (builtInto buffer (routeOf c sending) (datagramOf c g sending) wake);
   buffer = bufferWith buffer (datagramOf c g sending);
 }
 

@@ -6,7 +6,7 @@ use Rattle.machine.specs.declared.state.ClientState.the-variants.{Init}
 use Rattle.tables.specs.Tables.{wholeTables}
 use Rattle.tables.specs.Applied.{applied}
 use Rattle.tables.specs.declared.tables.Tables.{Tables}
-use Rattle.client.specs.Leases.{noLease, installed, nothing}
+use Rattle.lease.specs.Leases.{noLease, installed, nothing}
 use Rattle.client.specs.Clients.{withLease, inState, wholeClient}
 use Rattle.client.specs.declared.client.Client.{Client}
 use Rattle.client.specs.declared.reset.Settled.{Settled}

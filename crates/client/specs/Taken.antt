@@ -3,60 +3,29 @@ use Prim.Native.Nat.{ℕ}
 use mathlib.Core.Bool.{Bool, false, not}
 use mathlib.Core.List.{List}
 use Rattle.clock.specs.Choice.{if_then_else_}
-use Rattle.clock.specs.Durations.{duration}
 use Rattle.clock.specs.declared.instant.Instant.{Instant}
-use Rattle.clock.specs.declared.duration.MaybeDuration.{MaybeDuration}
-use Rattle.wire.specs.Options.{optionData}
-use Rattle.wire.specs.Readings.{secondsOf}
-use Rattle.machine.specs.Times.{given, leaseTime, rowOf, timesOf}
-use Rattle.machine.specs.States.{hasLease, requesting, renewing}
+use Rattle.machine.specs.States.{hasLease, requesting}
 use Rattle.machine.specs.declared.state.ClientState.{ClientState}
 use Rattle.machine.specs.declared.state.ClientState.the-variants.{Init, Discovering, Requesting, Renewing}
 use Rattle.machine.specs.declared.state.DhcpServerInfo.{DhcpServerInfo}
-use Rattle.machine.specs.declared.times.Row.{Row}
 use Rattle.tables.specs.Applied.{applied}
 use Rattle.tables.specs.declared.tables.Tables.{Tables}
 use Rattle.tables.specs.declared.apply.Installed.{Installed}
-use Rattle.client.specs.Settings.{maximumOf}
-use Rattle.client.specs.Leases.{leaseOf, sameLease, installed, nothing}
+use Rattle.lease.specs.Bound.{boundBy}
+use Rattle.lease.specs.Leases.{leaseOf, sameLease, installed, nothing}
 use Rattle.client.specs.Clients.{withLease, inState}
 use Rattle.client.specs.Resets.{wholeAll, cleared}
-use Rattle.client.specs.Judged.{recipientOf, judged}
-use Rattle.client.specs.declared.settings.Settings.{Settings}
-use Rattle.client.specs.declared.lease.DhcpLease.{DhcpLease}
+use Rattle.judge.specs.Judged.{judged}
+use Rattle.lease.specs.declared.lease.DhcpLease.{DhcpLease}
 use Rattle.client.specs.declared.client.Client.{Client}
-use Rattle.client.specs.declared.judge.Acked.{Acked}
-use Rattle.client.specs.declared.judge.Offered.{Offered}
-use Rattle.client.specs.declared.judge.Verdict.{Verdict}
-use Rattle.client.specs.declared.judge.Verdict.the-variants.{Offer, Ack, Nak, PassedOver}
+use Rattle.judge.specs.declared.judge.Recipient.{Recipient}
+use Rattle.judge.specs.declared.judge.Acked.{Acked}
+use Rattle.judge.specs.declared.judge.Offered.{Offered}
+use Rattle.judge.specs.declared.judge.Verdict.{Verdict}
+use Rattle.judge.specs.declared.judge.Verdict.the-variants.{Offer, Ack, Nak, PassedOver}
 use Rattle.client.specs.declared.reset.Settled.{Settled}
 use Rattle.client.specs.declared.process.Processed.{Processed}
 use Rattle.client.specs.declared.process.ReplyOutcome.the-variants as outcome
-
--- Codes of options that give a time (RFC 2132, sections 9.2, 9.11 and 9.12).
-abbrev pub leaseTimeCode : ℕ
-leaseTimeCode = 51
-
-abbrev pub renewalCode : ℕ
-renewalCode = 58
-
-abbrev pub rebindingCode : ℕ
-rebindingCode = 59
-
--- L of a reply, under a maximum.
-abbrev pub replyLease : MaybeDuration → List ℕ → ℕ
-replyLease maximum reply = leaseTime (secondsOf (optionData leaseTimeCode reply)) maximum
-
--- The row of the table of T1 and T2 that a reply with this L falls under.
-abbrev pub replyRow : List ℕ → ℕ → Row
-replyRow reply l = rowOf (given (secondsOf (optionData renewalCode reply))) (given (secondsOf (optionData rebindingCode reply))) l
-
--- Renewing, by the times of an ACK.
-abbrev pub boundFor : ℕ → List ℕ → Instant → ClientState
-boundFor l reply moment = renewing (timesOf (replyRow reply l) l) (duration l) moment
-
-unfoldable pub boundBy : Settings → List ℕ → Instant → ClientState
-boundBy settings reply moment = boundFor (replyLease (maximumOf settings) reply) reply moment
 
 -- Whose lease an ACK brings: in Requesting the server's that made the offer, in Renewing the one's that leased the address.
 -- No other state awaits an ACK.
@@ -111,6 +80,15 @@ replied c t reply moment (Offer offer) = takenAs (offered c t moment offer)
 replied c t reply moment (Ack ack) = takenAs (acked c t reply moment ack)
 replied c t reply moment Nak = takenAs (cleared c t)
 replied c t reply moment (PassedOver number) = record { client = c; tables = t; outcome = outcome.PassedOver number }
+
+-- What of a client decides: hardware address, transaction id, state, and whether NAKs are ignored.
+abbrev pub recipientOf : Client → Recipient
+recipientOf c = record {
+  hardware = c .settings .hardware;
+  id = c .«transaction_id»;
+  state = c .state;
+  ignoring = c .«ignore_naks»;
+}
 
 -- The call: 9 first, and then client and tables are as they came.
 unfoldable pub processed : Client → Tables → ℕ → List ℕ → Instant → Processed

@@ -1,27 +1,19 @@
 // What a reply that is taken does to the client and its tables.
 ghost use mathlib.Core.Path.{_≡_};
-ghost use Rattle.client.specs.Taken.{replied, serverOf, holds, heldBy, boundBy, replyRow, acked, entered};
+ghost use Rattle.client.specs.Taken.{replied, serverOf, holds, heldBy, acked, entered};
 use crate::client::Client;
-use crate::judge::Acked;
-use crate::judge::Verdict;
-use crate::lease::DhcpLease;
-use crate::lease::nothing;
 use crate::process::Processed;
 use crate::process::ReplyOutcome;
 use crate::reset::Settled;
-use clock::Duration;
 use clock::Instant;
+use judge::Acked;
+use judge::Verdict;
+use lease::DhcpLease;
+use lease::nothing;
 use machine::ClientState;
 use machine::DhcpServerInfo;
-use machine::Row;
 use tables::Installed;
 use tables::Tables;
-
-const OPT_IP_LEASE_TIME: u8 = 51;
-
-const OPT_RENEWAL_TIME_VALUE: u8 = 58;
-
-const OPT_REBINDING_TIME_VALUE: u8 = 59;
 
 impl Client {
     // What follows from a verdict on a reply.
@@ -61,7 +53,7 @@ impl Client {
     {
         let server = self.server(ack.server);
         let lease = DhcpLease::of_ack(server, ack.address, ack.prefix, reply);
-        let state = self.bound(reply, moment);
+        let state = lease::bound(self.settings, reply, moment);
         if self.holds(lease) {
             let client = self.in_state(state);
             return Settled {
@@ -126,25 +118,4 @@ impl Client {
         }
         nothing()
     }
-
-    // Renewing, by the times of an ACK.
-    fn bound(self, reply: &[u8], moment: Instant) -> ClientState
-        ensures { λ r. ⌜ r ≡ boundBy (self .settings) (now (reply .entry)) moment ⌝ }
-    {
-        let settings = self.settings;
-        let maximum = settings.longest_lease();
-        let said = wire::reply::option_seconds(reply, OPT_IP_LEASE_TIME);
-        let lease = machine::lease_duration(said, maximum);
-        let times = row_of(reply, lease).times(lease);
-        ClientState::renewing(times, lease, moment)
-    }
-}
-
-// The row of the table of T1 and T2 that an ACK with a lease of this length falls under.
-fn row_of(reply: &[u8], lease: Duration) -> Row
-    ensures { λ r. ⌜ r ≡ replyRow (now (reply .entry)) (lease .millis) ⌝ }
-{
-    let renew = machine::timer(wire::reply::option_seconds(reply, OPT_RENEWAL_TIME_VALUE));
-    let rebind = machine::timer(wire::reply::option_seconds(reply, OPT_REBINDING_TIME_VALUE));
-    Row::of(renew, rebind, lease)
 }

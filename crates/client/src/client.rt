@@ -1,10 +1,10 @@
 // The client, its creation, and number 9.
 ghost use mathlib.Core.Path.{_≡_};
 ghost use Rattle.client.specs.Clients.{noClient, fresh, created, inState, withLease, wholeClient, leaseFits};
-use crate::lease::DhcpLease;
-use crate::settings::Settings;
+use lease::DhcpLease;
 use machine::ClientState;
 use octets::MaybeNumber;
+use settings::Settings;
 use tables::Outcome;
 
 pub struct Client {

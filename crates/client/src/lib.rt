@@ -5,17 +5,13 @@
 
 mod apply;
 pub mod client;
-mod judge;
-pub mod lease;
 pub mod lookup;
 pub mod poll;
 pub mod process;
 pub mod reset;
-pub mod settings;
 
 pub use client::Client;
 pub use client::Created;
-pub use lease::DhcpLease;
 pub use lookup::Leased;
 pub use lookup::Standing;
 pub use poll::PollAnswer;
@@ -25,5 +21,3 @@ pub use process::Processed;
 pub use process::ReplyOutcome;
 pub use reset::ResetOutcome;
 pub use reset::WasReset;
-pub use settings::Medium;
-pub use settings::Settings;

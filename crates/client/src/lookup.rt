@@ -2,7 +2,7 @@
 ghost use mathlib.Core.Path.{_≡_};
 ghost use Rattle.client.specs.Lookups.{leaseHeld, optionHeld, standing, notHeld};
 use crate::client::Client;
-use crate::lease::DhcpLease;
+use lease::DhcpLease;
 use machine::ClientState;
 use tables::Has;
 use wire::Got;

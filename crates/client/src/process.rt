@@ -1,9 +1,10 @@
 // Replies: any bytes, from any source.
 ghost use mathlib.Core.Path.{_≡_};
-ghost use Rattle.client.specs.Taken.{processed, takenAs};
+ghost use Rattle.client.specs.Taken.{recipientOf, processed, takenAs};
 use crate::client::Client;
 use crate::reset::Settled;
 use clock::Instant;
+use judge::Recipient;
 use tables::Tables;
 
 // What became of a reply: it was taken, and whether link state is to be purged; it was passed over by a number from 20 to
@@ -35,6 +36,20 @@ impl Client {
         }
         let verdict = self.recipient().judge(source, reply);
         self.apply(tables, reply, moment, verdict)
+    }
+
+    // What of this client decides on a reply.
+    fn recipient(self) -> Recipient
+        ensures { λ r. ⌜ r ≡ recipientOf self ⌝ }
+    {
+        let hardware = self.settings.hardware;
+        let state = self.state;
+        Recipient {
+            hardware,
+            id: self.transaction_id,
+            state,
+            ignoring: self.ignore_naks,
+        }
     }
 }
 

@@ -2,8 +2,8 @@
 ghost use mathlib.Core.Path.{_≡_};
 ghost use Rattle.client.specs.Resets.{wholeAll, restarted, dropped, cleared, wasReset};
 use crate::client::Client;
-use crate::lease::DhcpLease;
-use crate::lease::nothing;
+use lease::DhcpLease;
+use lease::nothing;
 use machine::ClientState;
 use tables::Tables;
 

@@ -5,7 +5,7 @@ ghost use mathlib.Core.List.{[], _∷_};
 ghost use Prim.Native.Nat.{_/_, _<_, max};
 ghost use Rattle.clock.specs.Durations.{duration};
 ghost use Rattle.clock.specs.Moments.{due, earlier, moment};
-ghost use Rattle.machine.specs.Polling.{waking, sends, discovers, decidedDiscovering, requestWait, requested, decidedRequesting, retryAt, rebinds, renewWait, renewed, rebindWait, rebound, decidedRenewing, decided};
+ghost use Rattle.machine.specs.Polling.{waking, sends, discovers, decidedDiscovering, requestWait, requested, decidedRequesting, retryAt, rebinds, renewWait, renewed, rebindWait, rebound, decidedRenewing, decided, following};
 use crate::state::ClientState;
 use crate::state::DiscoverState;
 use crate::state::RenewState;
@@ -51,6 +51,19 @@ impl ClientState {
             ClientState::Discovering(s) => s.decide(waits, now),
             ClientState::Requesting(s) => s.decide(waits, now),
             ClientState::Renewing(s) => s.decide(waits, now),
+        }
+    }
+}
+
+impl Sending {
+    // The state that follows a message.
+    pub fn following(self) -> ClientState
+        ensures { λ r. ⌜ r ≡ following self ⌝ }
+    {
+        match self {
+            Sending::Discover(s) => ClientState::Discovering(s),
+            Sending::Request(s) => ClientState::Requesting(s),
+            Sending::Renew(s) => ClientState::Renewing(s),
         }
     }
 }

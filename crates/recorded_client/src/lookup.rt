@@ -4,8 +4,8 @@ use crate::same::same_words;
 use crate::same::state_words;
 use crate::values::RENEWING;
 use client::Client;
-use client::DhcpLease;
 use client::Standing;
+use lease::DhcpLease;
 use tables::Has;
 use wire::Got;
 

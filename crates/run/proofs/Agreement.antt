@@ -13,7 +13,7 @@ use Rattle.machine.specs.declared.poll.Sending.{Sending}
 use Rattle.machine.proofs.Timers.{Timers, unset, single, leased, Shows, init, discovering, requesting as requesting-shows, renewing, Dated, dated-later, Near, dated-near, Ahead}
 use Rattle.machine.proofs.Decisions.{Over, Goes, discovers-from, requests-again, renews}
 use Rattle.client.specs.declared.client.Client.{Client}
-use Rattle.client.proofs.Verdicts.{begun}
+use Rattle.judge.proofs.Verdicts.{begun}
 use Rattle.client.proofs.Effects.{Fitting}
 use Rattle.run.specs.Demand3.{History, NoAck, Held, older, expired, isHeld, Since, never, since, later, inTime}
 

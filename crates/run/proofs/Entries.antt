@@ -21,7 +21,7 @@ use Rattle.tables.specs.declared.apply.MaybeCidr.{MaybeCidr}
 use Rattle.tables.specs.declared.apply.MaybeCidr.the-variants.{Absent, Cidr}
 use Rattle.tables.specs.declared.apply.Installed.{Installed}
 use Rattle.tables.proofs.Origins.{same-cidr, same-cidr-self, same-router, same-router-self}
-use Rattle.client.specs.Leases.{nothing}
+use Rattle.lease.specs.Leases.{nothing}
 use Rattle.client.proofs.Effects.{Entered}
 use Rattle.run.specs.Demand3.{Acked, History, heldBy, lostBy, Lost, unlessLost, routesBy}
 

@@ -16,7 +16,7 @@ use Rattle.machine.specs.declared.state.ClientState.the-variants.{Discovering, 
 use Rattle.machine.specs.declared.state.RenewState.{RenewState}
 use Rattle.tables.specs.Tables.{addrTable, routeTable, emptyTables, dhcpAddrs}
 use Rattle.tables.specs.Applied.{leasedAddr}
-use Rattle.client.specs.Leases.{noLease}
+use Rattle.lease.specs.Leases.{noLease}
 use Rattle.client.specs.Polls.{silent, broadcast}
 use Rattle.client.specs.declared.poll.PollOutcome.{PollOutcome}
 use Rattle.client.specs.declared.poll.PollOutcome.the-variants.{Answered, Refused}
@@ -105,7 +105,7 @@ pub wrapped-bound : from 4294967295 [] [] .post ≡ wrapped
 unfolding computing standardWaits
 wrapped-bound = bound-so 4294967295 [] (timers 59999 104999 119999) refl refl
 
-pub wrapped-lease : (answers wrapped (replicate 300 0) 59999 ≡ Answered (silent (moment 59999) false))
+pub wrapped-lease : (answers wrapped (replicate 300 0) 59999 ≡ Answered (silent (moment 59999)))
     × (answers wrapped (replicate 300 0) 60000 ≡ asks (server .address) 104999)
     × (hasLease (after usual wrapped (pollAfter 60000 ∷ pollAfter 59999 ∷ []) .client .state) ≡ true)
     × (hasLease (after usual wrapped (pollAfter 60000 ∷ pollAfter 60000 ∷ []) .client .state) ≡ false)
@@ -137,7 +137,7 @@ pub long-bound : from 0 twoDays [] .post ≡ long
 unfolding computing standardWaits
 long-bound = bound-so 0 twoDays (timers day 151200000 172800000) refl refl
 
-pub due-a-day-on : (answers long [] 0 ≡ Answered (silent (moment day) false))
+pub due-a-day-on : (answers long [] 0 ≡ Answered (silent (moment day)))
     × (stepped usual long (pollAfter 0) ≡ long)
     × (answers long (replicate 300 0) day ≡ asks (server .address) 118800000)
 unfolding computing standardWaits

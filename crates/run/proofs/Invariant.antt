@@ -29,13 +29,14 @@ use Rattle.tables.specs.declared.tables.Tables.{Tables}
 use Rattle.tables.specs.declared.apply.MaybeCidr.{MaybeCidr}
 use Rattle.tables.specs.declared.apply.Installed.{Installed}
 use Rattle.tables.proofs.ByHand.{add-address-law, drop-address-law, add-route-law, drop-route-law}
-use Rattle.client.specs.Settings.{maximumOf}
-use Rattle.client.specs.Leases.{nothing}
+use Rattle.settings.specs.Settings.{maximumOf}
+use Rattle.lease.specs.Leases.{nothing}
 use Rattle.client.specs.Resets.{wasReset}
-use Rattle.client.specs.Taken.{leaseTimeCode, renewalCode, rebindingCode, replyLease, replyRow, boundBy, processed}
+use Rattle.lease.specs.Bound.{leaseTimeCode, renewalCode, rebindingCode, replyLease, replyRow, boundBy}
+use Rattle.client.specs.Taken.{processed}
 use Rattle.client.specs.Taken as taken
 use Rattle.client.specs.Polls.{PolledInto, moved, polled}
-use Rattle.client.specs.declared.settings.Settings.{Settings}
+use Rattle.settings.specs.declared.settings.Settings.{Settings}
 use Rattle.client.specs.declared.client.Client.{Client}
 use Rattle.client.specs.declared.process.Processed.{Processed}
 use Rattle.client.specs.declared.process.ReplyOutcome.{ReplyOutcome}
@@ -43,7 +44,7 @@ use Rattle.client.specs.declared.process.ReplyOutcome.the-variants as reply
 use Rattle.client.specs.declared.reset.ResetOutcome.{ResetOutcome}
 use Rattle.client.specs.declared.reset.ResetOutcome.the-variants as reset
 use Rattle.client.proofs.Unchanged.{wasTaken, wasMade, refused-kept}
-use Rattle.client.proofs.Verdicts.{begun}
+use Rattle.judge.proofs.Verdicts.{begun}
 use Rattle.client.proofs.Effects.{Entered, gives, Settles, reset-settles, reset-clears, Given, Became, unmoved, offered, was-acked, was-cleared, reply-effect, Fitting, moved-settles}
 use Rattle.client.proofs.Polling.{polled-cases}
 use Rattle.run.specs.Calls.{Manual, AddAddress, DropAddress, AddRoute, DropRoute, changedBy}

@@ -30,7 +30,7 @@ use Rattle.tables.specs.declared.manual.Changed.{Changed}
 use Rattle.tables.proofs.ByHand.{add-address-law, drop-address-law, add-route-law, drop-route-law}
 use Rattle.client.specs.Resets.{wholeAll}
 use Rattle.client.specs.Polls.{PolledInto, datagramOf, tooShort, polledAs, polledBy, polled}
-use Rattle.client.specs.declared.settings.Settings.{Settings}
+use Rattle.settings.specs.declared.settings.Settings.{Settings}
 use Rattle.client.specs.declared.client.Client.{Client}
 use Rattle.client.specs.declared.poll.PollOutcome.the-variants as poll
 use Rattle.client.proofs.Wholes.{all-parts, all-whole, processed-whole, reset-whole}

@@ -26,7 +26,7 @@ use Rattle.tables.specs.Tables.{emptyTables, dhcpAddrs, dhcpRoutes, addrTable, 
 use Rattle.tables.specs.Manual.{manualAddr}
 use Rattle.tables.specs.declared.manual.Outcome.the-variants.{Done}
 use Rattle.tables.specs.declared.tables.Tables.{Tables}
-use Rattle.client.specs.Leases.{noLease}
+use Rattle.lease.specs.Leases.{noLease}
 use Rattle.client.specs.Clients.{fresh, created}
 use Rattle.client.specs.Polls.{PolledInto, silent, polledBy, polled}
 use Rattle.client.specs.declared.client.Client.{Client}
@@ -34,7 +34,7 @@ use Rattle.client.specs.declared.client.Created.{Created}
 use Rattle.run.specs.Calls.{wakeOf, Calls, ByHand, DropAddress}
 use Rattle.run.specs.Demand3.{Entry, Run, start, momentAfter, OfPoll, events, older, notedAll, lostAll, Throughout, After, Since, never, since, later, counted, inTime, isPolled, eventsOf, Timely, total, next, unlessLost, Demand3}
 use Rattle.run.specs.Wrong.{daily, hasty, refusing, unexpiring, entering, restless, clinging, keeping, wakingAt, withoutExpiry, unmeasured, processedAgain}
-use Rattle.client.specs.declared.settings.Settings.{Settings}
+use Rattle.settings.specs.declared.settings.Settings.{Settings}
 use Rattle.run.proofs.Answers.{isAnswered, lengthOf}
 use Rattle.run.proofs.Sample.{plain, standing, server, address, offer, ackWith, pollAfter, replyNow, fromFresh, runs, untilAck, computing, plain-created}
 
@@ -152,7 +152,7 @@ unfolding computing
 unexpiring-fails w i d =
     let run = claimed (unexpiring w) refl d emptyTables refl refl (untilAck [] ++ (pollAfter 119999 ∷ [])) (omega arith) in
     let bound = requested-run w i (unexpiring w) (unexpired 0) (offered (unexpiring w) emptyTables) (replyNow (ackWith []) ∷ pollAfter 119999 ∷ []) (run .1 .1 .1) in
-    let wakes = bound .1 .0 .polls (silent (moment (nextRequest w)) false) refl .wakes in
+    let wakes = bound .1 .0 .polls (silent (moment (nextRequest w))) refl .wakes in
     let quiet = wakes .before [] tt 1 [] (passes-expiry w i) in
     false≢true (ap (λ (c : Client). hasLease (c .state)) (quiet .client))
 
@@ -217,4 +217,4 @@ unfolding computing keeping
 clinging-fails w i d =
     let run = claimed (clinging w) refl d emptyTables refl refl (untilAck [] ++ (pollAfter 120000 ∷ [])) (omega arith) in
     let bound = requested-run w i (clinging w) (λ q. q) (offered (clinging w) emptyTables) (replyNow (ackWith []) ∷ pollAfter 120000 ∷ []) (run .1 .1 .1) in
-    false≢true (sym (bound .1 .0 .polls (silent (moment 86520000) false) refl .lease))
+    false≢true (sym (bound .1 .0 .polls (silent (moment 86520000)) refl .lease))

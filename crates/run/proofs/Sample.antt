@@ -30,16 +30,17 @@ use Rattle.tables.specs.Applied.{appliedAddrs, appliedRoutes, leasedRoutes}
 use Rattle.tables.specs.Manual.{admitted, dropAddress}
 use Rattle.tables.specs.declared.tables.Tables.{Tables}
 use Rattle.tables.specs.declared.manual.Outcome.the-variants.{Done}
-use Rattle.client.specs.Settings.{refusalOf, listsRefusal, sizeRefusal, overCap, listOf, maximumOf}
-use Rattle.client.specs.Leases.{leaseOf, wholeLease}
+use Rattle.settings.specs.Settings.{refusalOf, listsRefusal, sizeRefusal, overCap, listOf, maximumOf}
+use Rattle.lease.specs.Leases.{leaseOf, wholeLease}
 use Rattle.client.specs.Clients.{fresh, created, leaseFits, wholeClient}
 use Rattle.client.specs.Resets.{wholeAll, cleared}
-use Rattle.client.specs.Judged.{needing, judgedOffer, judgedAddress, judgedAck, judgedKind, judgedSender, judged}
-use Rattle.client.specs.Taken.{boundBy, holds, heldBy, ackedAs, acked, replied, processed}
+use Rattle.judge.specs.Judged.{needing, judgedOffer, judgedAddress, judgedAck, judgedKind, judgedSender, judged}
+use Rattle.lease.specs.Bound.{boundBy}
+use Rattle.client.specs.Taken.{holds, heldBy, ackedAs, acked, replied, processed}
 use Rattle.client.specs.Polls.{idOf, randAfter, renewsTo, datagramOf, sent, polled}
-use Rattle.client.specs.declared.settings.Settings.{Settings}
-use Rattle.client.specs.declared.settings.Medium.the-variants.{Ethernet}
-use Rattle.client.specs.declared.lease.DhcpLease.{DhcpLease}
+use Rattle.settings.specs.declared.settings.Settings.{Settings}
+use Rattle.settings.specs.declared.settings.Medium.the-variants.{Ethernet}
+use Rattle.lease.specs.declared.lease.DhcpLease.{DhcpLease}
 use Rattle.client.specs.declared.client.Client.{Client}
 use Rattle.run.specs.Calls.{Calls, Poll, Reply}
 use Rattle.run.specs.Demand3.{Entry, Run, start, next, expired, acceptedAs, lostBy}

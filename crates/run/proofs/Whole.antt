@@ -20,14 +20,14 @@ use Rattle.tables.specs.Tables.{dhcpAddrs, dhcpRoutes, wholeTables}
 use Rattle.tables.specs.declared.tables.Tables.{Tables}
 use Rattle.tables.specs.declared.manual.Outcome.{Outcome}
 use Rattle.tables.specs.declared.manual.Outcome.the-variants.{Done, Refused}
-use Rattle.client.specs.Settings.{refusalOf}
-use Rattle.client.specs.Leases.{nothing}
+use Rattle.settings.specs.Settings.{refusalOf}
+use Rattle.lease.specs.Leases.{nothing}
 use Rattle.client.specs.Clients.{fresh, createdOr, created}
 use Rattle.client.specs.Resets.{wholeAll}
 use Rattle.client.specs.Taken.{heldBy}
 use Rattle.message.specs.declared.datagram.Route.{Route}
-use Rattle.client.specs.Polls.{PolledInto, builtInto, polled}
-use Rattle.client.specs.declared.settings.Settings.{Settings}
+use Rattle.client.specs.Polls.{PolledInto, routeOf, datagramOf, builtInto, polled}
+use Rattle.settings.specs.declared.settings.Settings.{Settings}
 use Rattle.client.specs.declared.client.Client.{Client}
 use Rattle.client.specs.declared.poll.PollAnswer.{PollAnswer}
 use Rattle.client.specs.declared.poll.PollOutcome.the-variants as poll
@@ -53,9 +53,9 @@ record Rested (t : ℕ) (c : Client) (tb : Tables) (a : PollAnswer) : Type 0 whe
   whole : wholeAll c tb ≡ true
   wake-is : a .wake ≡ moment (wrap (wakeAt t x))
 
-built-wake : (b : List ℕ) (route : Route) (out : List ℕ) (m : Instant) (purge : Bool) → builtInto b route out m purge .wake ≡ m
-built-wake [] route out m purge = refl
-built-wake (y ∷ ys) route out m purge = refl
+built-wake : (b : List ℕ) (route : Route) (out : List ℕ) (m : Instant) → builtInto b route out m .wake ≡ m
+built-wake [] route out m = refl
+built-wake (y ∷ ys) route out m = refl
 
 module _ (w : Waits) (z : InRange w) where
   module _ (s : Settings) (gp : Since) (t : ℕ) (c : Client) (tb : Tables) (g : Rand) (h : History) (lost : Lost) (i : Inv s gp t c tb h lost) (b : List ℕ) where
@@ -71,7 +71,7 @@ module _ (w : Waits) (z : InRange w) where
           shows = sh′;
           ahead = l;
           whole = moved-whole c tb v g b (moment m) k (fitting sh go c refl);
-          wake-is = sym (ap wakeOf e) ∙ built-wake b _ _ (moment m) _ ∙ ap moment q;
+          wake-is = sym (ap wakeOf e) ∙ built-wake b (routeOf c k) (datagramOf c g k) (moment m) ∙ ap moment q;
         }
 
     rests : inTime true gp → Rests (polled w c tb g (moment (wrap t)) b)

@@ -13,7 +13,7 @@ use Rattle.client.specs.Clients.{created}
 use Rattle.client.specs.Resets.{wasReset}
 use Rattle.client.specs.Taken.{processed}
 use Rattle.client.specs.Polls.{PolledInto, polled}
-use Rattle.client.specs.declared.settings.Settings.{Settings}
+use Rattle.settings.specs.declared.settings.Settings.{Settings}
 use Rattle.client.specs.declared.client.Client.{Client}
 use Rattle.client.specs.declared.client.Created.{Created}
 use Rattle.client.specs.declared.poll.PollOutcome.{PollOutcome}

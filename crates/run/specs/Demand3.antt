@@ -34,12 +34,12 @@ use Rattle.tables.specs.declared.apply.MaybeCidr.{MaybeCidr}
 use Rattle.tables.specs.declared.apply.MaybeCidr.the-variants.{Absent, Cidr}
 use Rattle.tables.specs.declared.apply.Installed.{Installed}
 use Rattle.tables.specs.declared.manual.Outcome.the-variants as manual
-use Rattle.client.specs.Settings.{maximumOf}
-use Rattle.client.specs.Leases.{nothing}
-use Rattle.client.specs.Judged.{maskCode}
-use Rattle.client.specs.Taken.{replyLease}
+use Rattle.settings.specs.Settings.{maximumOf}
+use Rattle.lease.specs.Leases.{nothing}
+use Rattle.judge.specs.Judged.{maskCode}
+use Rattle.lease.specs.Bound.{replyLease}
 use Rattle.client.specs.Polls.{PolledInto}
-use Rattle.client.specs.declared.settings.Settings.{Settings}
+use Rattle.settings.specs.declared.settings.Settings.{Settings}
 use Rattle.client.specs.declared.client.Client.{Client}
 use Rattle.client.specs.declared.poll.PollAnswer.{PollAnswer}
 use Rattle.client.specs.declared.poll.PollOutcome.{PollOutcome}

@@ -15,7 +15,7 @@ use Rattle.machine.specs.declared.state.ClientState.{ClientState}
 use Rattle.machine.specs.declared.state.ClientState.the-variants.{Init, Discovering, Requesting, Renewing}
 use Rattle.tables.specs.Applied.{applied}
 use Rattle.tables.specs.declared.tables.Tables.{Tables}
-use Rattle.client.specs.Leases.{installed, nothing}
+use Rattle.lease.specs.Leases.{installed, nothing}
 use Rattle.client.specs.Taken.{holds, processed}
 use Rattle.client.specs.Polls.{PolledInto, refusedBy, passedBy, tooShort, polled}
 use Rattle.client.specs.declared.client.Client.{Client}

@@ -3,4 +3,9 @@
 
 pub mod post;
 
+pub use post::ChangedPost;
+pub use post::CreatedPost;
+pub use post::PolledPost;
 pub use post::Post;
+pub use post::RepliedPost;
+pub use post::ResetPost;

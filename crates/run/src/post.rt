@@ -1,7 +1,19 @@
-// What a call is made on, and leaves to the next.
+// A post: what a call is made on, and leaves to the next. Each call takes its step first: the moment moves on by so many
+// milliseconds, with wrap, also where the call is then refused.
+ghost use mathlib.Core.Path.{_≡_};
+ghost use Rattle.run.specs.Calls.{AddAddress, DropAddress, AddRoute, DropRoute};
+ghost use Rattle.run.specs.Demand3.{momentAfter};
+ghost use Rattle.run.specs.Posts.{createdPost, polledPost, bufferOf, repliedPost, resetPost, changedPost, laterPost, withTables};
 use client::Client;
+use client::PollOutcome;
+use client::ReplyOutcome;
+use client::ResetOutcome;
+use clock::Duration;
 use clock::Instant;
 use clock::Rand;
+use settings::Settings;
+use tables::Changed;
+use tables::Outcome;
 use tables::Tables;
 
 pub struct Post {
@@ -10,4 +22,189 @@ pub struct Post {
     pub rand: Rand,
     // when the last call was made
     pub now: Instant,
+}
+
+// The post after each call, with the call's answer.
+pub struct CreatedPost {
+    pub post: Post,
+    pub outcome: Outcome,
+}
+
+pub struct PolledPost {
+    pub post: Post,
+    pub outcome: PollOutcome,
+}
+
+pub struct RepliedPost {
+    pub post: Post,
+    pub outcome: ReplyOutcome,
+}
+
+pub struct ResetPost {
+    pub post: Post,
+    pub outcome: ResetOutcome,
+}
+
+pub struct ChangedPost {
+    pub post: Post,
+    pub outcome: Outcome,
+}
+
+impl Post {
+    // A post with a new client, or one with an all-zero client and the number of the refusal.
+    pub fn new(
+        settings: Settings,
+        ignoring: bool,
+        tables: Tables,
+        rand: Rand,
+        now: Instant,
+    ) -> CreatedPost
+        ensures { λ r. ⌜ r ≡ createdPost settings ignoring tables rand now ⌝ }
+    {
+        let created = Client::new(settings, ignoring);
+        let client = created.client;
+        let outcome = created.outcome;
+        CreatedPost {
+            post: Post {
+                client,
+                tables,
+                rand,
+                now,
+            },
+            outcome,
+        }
+    }
+
+    pub fn poll(self, step: u32, buf: &mut [u8]) -> PolledPost
+        ensures { λ r. ⌜ (r ≡ polledPost self step (now (buf .entry))) × (now (buf .exit) ≡ bufferOf self step (now (buf .entry))) ⌝ }
+    {
+        let now = self.moment_after(step);
+        let held = self.client;
+        let polled = held.poll(self.tables, self.rand, now, buf);
+        let client = polled.client;
+        let tables = polled.tables;
+        let rand = polled.rand;
+        let outcome = polled.outcome;
+        PolledPost {
+            post: Post {
+                client,
+                tables,
+                rand,
+                now,
+            },
+            outcome,
+        }
+    }
+
+    pub fn process(self, step: u32, source: u32, reply: &[u8]) -> RepliedPost
+        ensures { λ r. ⌜ r ≡ repliedPost self step source (now (reply .entry)) ⌝ }
+    {
+        let now = self.moment_after(step);
+        let held = self.client;
+        let processed = held.process(self.tables, source, reply, now);
+        let client = processed.client;
+        let tables = processed.tables;
+        let rand = self.rand;
+        let outcome = processed.outcome;
+        RepliedPost {
+            post: Post {
+                client,
+                tables,
+                rand,
+                now,
+            },
+            outcome,
+        }
+    }
+
+    pub fn reset(self, step: u32) -> ResetPost
+        ensures { λ r. ⌜ r ≡ resetPost self step ⌝ }
+    {
+        let now = self.moment_after(step);
+        let held = self.client;
+        let was = held.reset(self.tables);
+        let client = was.client;
+        let tables = was.tables;
+        let rand = self.rand;
+        let outcome = was.outcome;
+        ResetPost {
+            post: Post {
+                client,
+                tables,
+                rand,
+                now,
+            },
+            outcome,
+        }
+    }
+
+    pub fn add_address(self, step: u32, address: u32, prefix: u8) -> ChangedPost
+        ensures { λ r. ⌜ r ≡ changedPost self step (AddAddress address prefix) ⌝ }
+    {
+        let tables = self.tables;
+        self.changed(step, tables.add_address(address, prefix))
+    }
+
+    pub fn drop_address(self, step: u32, address: u32, prefix: u8) -> ChangedPost
+        ensures { λ r. ⌜ r ≡ changedPost self step (DropAddress address prefix) ⌝ }
+    {
+        let tables = self.tables;
+        self.changed(step, tables.drop_address(address, prefix))
+    }
+
+    pub fn add_route(self, step: u32, network: u32, prefix: u8, router: u32) -> ChangedPost
+        ensures { λ r. ⌜ r ≡ changedPost self step (AddRoute network prefix router) ⌝ }
+    {
+        let tables = self.tables;
+        self.changed(step, tables.add_route(network, prefix, router))
+    }
+
+    pub fn drop_route(self, step: u32, network: u32, prefix: u8, router: u32) -> ChangedPost
+        ensures { λ r. ⌜ r ≡ changedPost self step (DropRoute network prefix router) ⌝ }
+    {
+        let tables = self.tables;
+        self.changed(step, tables.drop_route(network, prefix, router))
+    }
+
+    // The post a step later, on which client and tables can be looked up: a look-up changes the moment alone.
+    pub fn later(self, step: u32) -> Post
+        ensures { λ r. ⌜ r ≡ laterPost self step ⌝ }
+    {
+        let now = self.moment_after(step);
+        let client = self.client;
+        let tables = self.tables;
+        let rand = self.rand;
+        Post {
+            client,
+            tables,
+            rand,
+            now,
+        }
+    }
+
+    // The post after a manual call that has changed its tables so.
+    fn changed(self, step: u32, changed: Changed) -> ChangedPost
+        ensures { λ r. ⌜ r ≡ withTables self step changed ⌝ }
+    {
+        let now = self.moment_after(step);
+        let client = self.client;
+        let tables = changed.tables;
+        let rand = self.rand;
+        let outcome = changed.outcome;
+        ChangedPost {
+            post: Post {
+                client,
+                tables,
+                rand,
+                now,
+            },
+            outcome,
+        }
+    }
+
+    fn moment_after(self, step: u32) -> Instant
+        ensures { λ r. ⌜ r ≡ momentAfter self step ⌝ }
+    {
+        self.now.add(Duration { millis: step })
+    }
 }

@@ -1,10 +1,12 @@
--- The cases that document 01 marks ★, as one table with one theorem. Each layer adds its own.
+-- The cases that document 01 marks ★, as one table with one theorem. The masks are three cases of one ★.
 use Prim.Native.Nat.{ℕ}
 use mathlib.Core.Path.{_≡_, refl}
 use mathlib.Core.Bool.{true}
 use mathlib.Core.List.{List, [], _∷_, map}
 use lib.ListN.{length, getD}
-use Rattle.clock.specs.Moments.{plus}
+use Rattle.clock.specs.Durations.{duration}
+use Rattle.clock.specs.Moments.{plus, moment, before, due, rest, earlier}
+use Rattle.clock.specs.Waits.{standardWaits}
 use Rattle.clock.specs.Choice.{if_then_else_}
 use Rattle.clock.specs.Generator.{generator, drawn32, nextState, outputOf}
 use Rattle.octets.specs.Words.{word16, word32}
@@ -13,6 +15,9 @@ use Rattle.octets.specs.declared.number.MaybeNumber.{MaybeNumber}
 use Rattle.octets.specs.declared.number.MaybeNumber.the-variants.{None, Some}
 use Rattle.clock.specs.declared.duration.MaybeDuration.the-variants as time
 use Rattle.machine.specs.Times.{given, leaseTime, rowOf, timesOf}
+use Rattle.machine.specs.States.{renewing}
+use Rattle.machine.specs.Polling.{decided, decidedRenewing, retryAt, rebinds}
+use Rattle.machine.specs.declared.state.ClientState.{ClientState}
 use Rattle.machine.specs.declared.times.Row.{Row}
 use Rattle.message.specs.Messages.{message, optionIf, addressOption, sizeOption, nameOption}
 use Rattle.message.specs.Datagrams.{udp}
@@ -64,6 +69,14 @@ timesOfLease l row = timesOf row l .renew .millis ∷ timesOf row l .rebind .mil
 abbrev leased : MaybeNumber → MaybeNumber → MaybeNumber → List ℕ
 leased l t1 t2 = timesOfLease (leaseTime l time.None) (rowOf (given t1) (given t2) (leaseTime l time.None))
 
+-- When the poll of a client in this state is next wanted, after one at a moment.
+abbrev nextWanted : ClientState → ℕ → ℕ
+nextWanted state now = decided standardWaits state now .wake .millis
+
+-- The state that an ACK at moment 0 gives, with L of so many milliseconds and options 58 and 59 absent.
+abbrev bound : ℕ → ClientState
+bound l = renewing (timesOf (rowOf (given None) (given None) l) l) (duration l) (moment 0)
+
 unfoldable pub cases : List Case
 cases =
     -- "A moment plus a wait wraps at 2^32: 4,294,967,295 plus 10,000 is 9,999."
@@ -79,11 +92,13 @@ cases =
     ∷ case (leased (Some 3600) None None) (1800000 ∷ 3150000 ∷ 3600000 ∷ [])
     ∷ case (leased (Some 3600) (Some 900) None) (900000 ∷ 2925000 ∷ 3600000 ∷ [])
     ∷ case (leased (Some 3600) None (Some 1000)) (1000000 ∷ 1000000 ∷ 3600000 ∷ [])
+    -- "First retry at 1,800 s of L 3,600: next at 2,475." Nothing is sent before 1,800 s.
+    ∷ case (nextWanted (bound 3600000) 0 ∷ nextWanted (bound 3600000) 1800000 ∷ []) (1800000 ∷ 2475000 ∷ [])
     -- "Discover without name: 262 bytes, UDP length 270." "Requesting: 274." The UDP length is octets 4 and 5.
     ∷ case (length discover ∷ udpLength discover ∷ []) (262 ∷ 270 ∷ [])
     ∷ case (length requesting ∷ []) (274 ∷ [])
     ∷ []
 
 pub all-hold : map (λ c. c .given) cases ≡ map (λ c. c .stated) cases
-unfolding cases drawn32 nextState outputOf lengthUpTo leaseTime timesOf if_then_else_ message optionIf addressOption sizeOption nameOption
+unfolding cases drawn32 nextState outputOf lengthUpTo leaseTime timesOf standardWaits decided decidedRenewing retryAt rebinds before due rest earlier if_then_else_ message optionIf addressOption sizeOption nameOption
 all-hold = refl

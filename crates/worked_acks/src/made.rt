@@ -1,15 +1,15 @@
 // Clients and replies that the examples begin with.
 use client::Client;
-use client::DhcpLease;
-use client::Medium;
-use client::Settings;
 use clock::Duration;
 use clock::Instant;
+use lease::DhcpLease;
 use machine::ClientState;
 use machine::DhcpServerInfo;
 use machine::RequestState;
 use machine::Tries;
 use octets::run::put_bytes_at;
+use settings::Medium;
+use settings::Settings;
 use tables::Tables;
 
 // Stands for a time that is not given; no example has this one.

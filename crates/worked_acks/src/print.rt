@@ -1,5 +1,5 @@
 // What the examples print.
-use client::DhcpLease;
+use lease::DhcpLease;
 use libc::STDOUT_FILENO;
 use machine::ClientState;
 use machine::DhcpServerInfo;

@@ -6,7 +6,7 @@ use crate::made::client_at;
 use crate::made::lease;
 use crate::made::one_by_hand;
 use crate::print::print;
-use client::DhcpLease;
+use lease::DhcpLease;
 use tables::AddrTable;
 use tables::IfaceAddr;
 use tables::Route;

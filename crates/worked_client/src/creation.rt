@@ -11,9 +11,9 @@ use crate::print::print_created;
 use crate::print::test;
 use crate::same::same_client;
 use client::Client;
-use client::DhcpLease;
-use client::Settings;
+use lease::DhcpLease;
 use machine::ClientState;
+use settings::Settings;
 
 pub fn examples() {
     media();

@@ -1,16 +1,16 @@
 // Settings, clients, tables and a reply that the examples begin with.
 use client::Client;
-use client::DhcpLease;
-use client::Medium;
-use client::Settings;
 use clock::Duration;
 use clock::Instant;
+use lease::DhcpLease;
 use machine::ClientState;
 use machine::DhcpServerInfo;
 use machine::DiscoverState;
 use machine::RequestState;
 use machine::Tries;
 use octets::run::put_bytes_at;
+use settings::Medium;
+use settings::Settings;
 use tables::Tables;
 
 // 10.0.0.9, where the OFFER came from, and 10.0.0.1, its identifier.

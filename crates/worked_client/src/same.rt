@@ -1,8 +1,8 @@
 // Whether two clients are the same, settings by their numbers; and two tables, by their generation, counts and first entries.
 use client::Client;
-use client::DhcpLease;
-use client::Settings;
+use lease::DhcpLease;
 use machine::ClientState;
+use settings::Settings;
 use tables::AddrTable;
 use tables::RouteTable;
 use tables::Tables;

@@ -1,7 +1,7 @@
 // What the examples print: what was asked and what came of it, then the client's state and lease, then the tables: generation,
 // addresses, default route; a star marks an entry of DHCP's.
 use crate::made::Post;
-use client::DhcpLease;
+use lease::DhcpLease;
 use libc::STDOUT_FILENO;
 use machine::ClientState;
 use machine::DhcpServerInfo;

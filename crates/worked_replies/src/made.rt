@@ -1,7 +1,5 @@
 // Settings, clients, tables and replies that the examples begin with.
 use client::Client;
-use client::Medium;
-use client::Settings;
 use clock::Duration;
 use clock::Instant;
 use machine::ClientState;
@@ -10,6 +8,8 @@ use machine::DiscoverState;
 use machine::RequestState;
 use machine::Tries;
 use octets::run::put_bytes_at;
+use settings::Medium;
+use settings::Settings;
 use tables::Tables;
 
 // 10.0.0.9, where the OFFER came from, and 10.0.0.1, its identifier.

@@ -1,6 +1,6 @@
 use Rattle.client.proofs.Settling.{settled}
 use Rattle.client.specs.Clients.{withLease}
-use Rattle.client.specs.declared.lease.DhcpLease.{DhcpLease}
+use Rattle.lease.specs.declared.lease.DhcpLease.{DhcpLease}
 use Rattle.machine.specs.declared.state.ClientState.the-variants.{Init}
 use mathlib.Core.Path.{ap, _∙_}
 use borrow.Author.Needs.{needs}

@@ -6,8 +6,8 @@ use Rattle.client.proofs.client.Client.held.Statement.{statement}
 use Rattle.client.proofs.client.Client.held.Tie as tie
 use Rattle.client.proofs.client.Client.held.Reads as reads
 use Rattle.client.proofs.client.Client.held.Lts as lts
-use Rattle.client.proofs.lease.DhcpLease.installed.Reads as installed-reads
-use Rattle.client.proofs.lease.nothing.Reads as nothing-reads
+use Rattle.lease.proofs.lease.DhcpLease.installed.Reads as installed-reads
+use Rattle.lease.proofs.lease.nothing.Reads as nothing-reads
 use Rattle.machine.proofs.state.ClientState.has_lease.Reads as has-lease-reads
 
 has-lease-requires : tie.Need-has-lease-requires

@@ -6,7 +6,7 @@ use Rattle.client.proofs.client.Client.holds.Statement.{statement}
 use Rattle.client.proofs.client.Client.holds.Tie as tie
 use Rattle.client.proofs.client.Client.holds.Reads as reads
 use Rattle.client.proofs.client.Client.holds.Lts as lts
-use Rattle.client.proofs.lease.DhcpLease.equals.Reads as equals-reads
+use Rattle.lease.proofs.lease.DhcpLease.equals.Reads as equals-reads
 use Rattle.machine.proofs.state.ClientState.has_lease.Reads as has-lease-reads
 
 has-lease-requires : tie.Need-has-lease-requires

@@ -1,0 +1,4 @@
+pub mod Made
+pub mod Numbers
+pub mod Order
+pub mod Times

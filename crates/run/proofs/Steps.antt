@@ -1,0 +1,52 @@
+-- What a post's call comes to, from the client's own call at the post's next moment. Assumes nothing.
+use Prim.Native.Nat.{ℕ}
+use mathlib.Core.Path.{_≡_, ap, _∙_}
+use mathlib.Core.List.{List}
+use Rattle.clock.specs.Waits.{standardWaits}
+use Rattle.clock.specs.declared.instant.Instant.{Instant}
+use Rattle.client.specs.Taken.{processed}
+use Rattle.client.specs.Resets.{wasReset}
+use Rattle.client.specs.Polls.{polled}
+use Rattle.client.specs.declared.poll.Polled.{Polled}
+use Rattle.client.specs.declared.process.Processed.{Processed}
+use Rattle.client.specs.declared.reset.WasReset.{WasReset}
+use Rattle.tables.specs.declared.manual.Changed.{Changed}
+use Rattle.run.specs.Demand3.{momentAfter}
+use Rattle.run.specs.Posts.{polledPost, bufferOf, repliedPost, resetPost, laterPost, withTables}
+use Rattle.run.specs.declared.post.Post.{Post}
+use Rattle.run.specs.declared.post.PolledPost.{PolledPost}
+use Rattle.run.specs.declared.post.RepliedPost.{RepliedPost}
+use Rattle.run.specs.declared.post.ResetPost.{ResetPost}
+use Rattle.run.specs.declared.post.ChangedPost.{ChangedPost}
+
+module _ (p : Post) (step : ℕ) {now : Instant} (e : now ≡ momentAfter p step) where
+  abbrev withPolled : Instant → Polled → PolledPost
+  withPolled m r = record { post = record { client = r .client; tables = r .tables; rand = r .rand; now = m }; outcome = r .outcome }
+
+  pub polls : (b : List ℕ) {r : Polled} {b′ : List ℕ}
+      → (r ≡ polled standardWaits (p .client) (p .tables) (p .rand) now b .polled) × (b′ ≡ polled standardWaits (p .client) (p .tables) (p .rand) now b .buffer)
+      → (withPolled now r ≡ polledPost p step b) × (b′ ≡ bufferOf p step b)
+  polls b h = (
+    ap (withPolled now) (h .0) ∙ ap (λ (m : Instant). withPolled m (polled standardWaits (p .client) (p .tables) (p .rand) m b .polled)) e,
+    h .1 ∙ ap (λ (m : Instant). polled standardWaits (p .client) (p .tables) (p .rand) m b .buffer) e,
+  )
+
+  abbrev withProcessed : Instant → Processed → RepliedPost
+  withProcessed m r = record { post = record { client = r .client; tables = r .tables; rand = p .rand; now = m }; outcome = r .outcome }
+
+  pub processes : (source : ℕ) (bytes : List ℕ) {r : Processed} → r ≡ processed (p .client) (p .tables) source bytes now → withProcessed now r ≡ repliedPost p step source bytes
+  processes source bytes h = ap (withProcessed now) h ∙ ap (λ (m : Instant). withProcessed m (processed (p .client) (p .tables) source bytes m)) e
+
+  abbrev withReset : Instant → WasReset → ResetPost
+  withReset m r = record { post = record { client = r .client; tables = r .tables; rand = p .rand; now = m }; outcome = r .outcome }
+
+  pub resets : {r : WasReset} → r ≡ wasReset (p .client) (p .tables) → withReset now r ≡ resetPost p step
+  resets h = ap (withReset now) h ∙ ap (λ (m : Instant). withReset m (wasReset (p .client) (p .tables))) e
+
+  pub changes : (changed : Changed)
+      → _≡_ {A = ChangedPost} (record { post = record { client = p .client; tables = changed .tables; rand = p .rand; now = now }; outcome = changed .outcome }) (withTables p step changed)
+  changes changed =
+      ap (λ (m : Instant). record { post = record { client = p .client; tables = changed .tables; rand = p .rand; now = m }; outcome = changed .outcome }) e
+
+  pub waits : _≡_ {A = Post} (record { client = p .client; tables = p .tables; rand = p .rand; now = now }) (laterPost p step)
+  waits = ap (λ (m : Instant). record { client = p .client; tables = p .tables; rand = p .rand; now = m }) e
