@@ -31,7 +31,7 @@ use Rattle.tables.specs.declared.tables.Tables.{Tables}
 use Rattle.settings.specs.Settings.{nameOf, listOf, extraOf}
 use Rattle.client.specs.Clients.{wholeClient}
 use Rattle.client.specs.Resets.{wholeAll}
-use Rattle.client.specs.Polls.{PolledInto, draws, idOf, randAfter, drawnFor, fieldsOf, routeOf, bodyOf, datagramOf, madeReady, awaiting, refusedBy, silent, built, purging, settledBy, moved, sent, polledAs, polledBy, polled}
+use Rattle.client.specs.Polls.{PolledInto, draws, idOf, randAfter, drawnFor, fieldsOf, routeOf, bodyOf, datagramOf, madeReady, awaiting, refusal, refusedBy, silent, built, purging, settledBy, moved, sent, polledAs, polledBy, polled}
 use Rattle.client.specs.declared.client.Client.{Client}
 use Rattle.client.specs.declared.reset.Settled.{Settled}
 use Rattle.client.specs.declared.poll.PollAnswer.{PollAnswer}
@@ -123,17 +123,17 @@ module _ (c : Client) (t : Tables) (g : Rand) (wake : Instant) (s : Sending) whe
         left ∙ ap (λ x. leaves x (datagramOf c g s) b) i ∙ sym (ap (λ (x : PolledInto). x .buffer) (sent-by ∙ ap (came b) i)),
       )
 
-      pub sent-short : {n : ℕ} → w ≡ Refused n → (refusedBy c t g b 8 .polled ≡ sent c t g b wake s .polled) × (b′ ≡ sent c t g b wake s .buffer)
-      sent-short i = (
-        sym (ap (λ (x : PolledInto). x .polled) (sent-by ∙ ap (came b) i)),
+      pub sent-short : {n : ℕ} {r : Polled} → w ≡ Refused n → r ≡ refusal c t g 8 → (r ≡ sent c t g b wake s .polled) × (b′ ≡ sent c t g b wake s .buffer)
+      sent-short i j = (
+        j ∙ sym (ap (λ (x : PolledInto). x .polled) (sent-by ∙ ap (came b) i)),
         left ∙ ap (λ x. leaves x (datagramOf c g s) b) i ∙ sym (ap (λ (x : PolledInto). x .buffer) (sent-by ∙ ap (came b) i)),
       )
 
 -- a poll, by what is decided
 module _ (c : Client) (t : Tables) (g : Rand) (now : Instant) (b : List ℕ) (w : Waits) where
-  pub poll-broken : not (wholeAll c t) ≡ true → (refusedBy c t g b 9 .polled ≡ polled w c t g now b .polled) × (b ≡ polled w c t g now b .buffer)
+  pub poll-broken : {r : Polled} → not (wholeAll c t) ≡ true → r ≡ refusal c t g 9 → (r ≡ polled w c t g now b .polled) × (b ≡ polled w c t g now b .buffer)
   unfolding polled if_then_else_
-  poll-broken h = rw h (refl, refl)
+  poll-broken h e = rw h (e, refl)
 
   module _ (h : not (wholeAll c t) ≡ false) {k : Decision} (e : k ≡ decided w (c .state) (now .millis)) where
     polled-as : {d : Due} → k .due ≡ d → polled w c t g now b ≡ polledAs c t g b (k .wake) d

@@ -113,11 +113,11 @@ pub record PolledInto : Type 0 where
   pub buffer : List ℕ
 
 -- A refusal: all is as it came.
+abbrev pub refusal : Client → Tables → Rand → ℕ → Polled
+refusal c t g number = record { client = c; tables = t; rand = g; outcome = Refused number }
+
 abbrev pub refusedBy : Client → Tables → Rand → List ℕ → ℕ → PolledInto
-refusedBy c t g buffer number = record {
-  polled = record { client = c; tables = t; rand = g; outcome = Refused number };
-  buffer = buffer;
-}
+refusedBy c t g buffer number = record { polled = refusal c t g number; buffer = buffer }
 
 -- Nothing is due: all is as it came, "length, source and destination address (all 0 if none was built)".
 abbrev pub silent : Instant → PollAnswer

@@ -6,7 +6,7 @@ ghost use Rattle.clock.specs.Waits.{standardWaits};
 ghost use Rattle.message.specs.Written.{written, bufferAfter};
 ghost use Rattle.settings.specs.Settings.{nameOf, listOf, extraOf};
 ghost use Rattle.client.specs.Clients.{wholeClient};
-ghost use Rattle.client.specs.Polls.{draws, drawnFor, fieldsOf, renewsTo, routeOf, kept, madeReady, awaiting, silent, built, purging, settledBy, sent, polled};
+ghost use Rattle.client.specs.Polls.{draws, drawnFor, fieldsOf, renewsTo, routeOf, kept, madeReady, awaiting, refusal, silent, built, purging, settledBy, sent, polled};
 use crate::client::Client;
 use crate::reset::Settled;
 use clock::Drawn32;
@@ -61,12 +61,7 @@ impl Client {
         ensures { λ r. ⌜ (r ≡ polled standardWaits self tables rand moment (now (buf .entry)) .polled) × (now (buf .exit) ≡ polled standardWaits self tables rand moment (now (buf .entry)) .buffer) ⌝ }
     {
         if !self.is_whole_with(tables) {
-            return Polled {
-                client: self,
-                tables,
-                rand,
-                outcome: PollOutcome::Refused(9),
-            };
+            return self.refused(tables, rand, 9);
         }
         let state = self.state;
         let decision = state.decide(Waits::standard(), moment);
@@ -104,12 +99,19 @@ impl Client {
             Answer::Length(n) => {
                 self.settle(tables, drawn, sending, PollAnswer::built(n, route, wake))
             }
-            Answer::Refused(_) => Polled {
-                client: self,
-                tables,
-                rand,
-                outcome: PollOutcome::Refused(8),
-            },
+            Answer::Refused(_) => self.refused(tables, rand, 8),
+        }
+    }
+
+    // All as it came, with the number of the refusal.
+    fn refused(self, tables: Tables, rand: Rand, number: u32) -> Polled
+        ensures { λ r. ⌜ r ≡ refusal self tables rand number ⌝ }
+    {
+        Polled {
+            client: self,
+            tables,
+            rand,
+            outcome: PollOutcome::Refused(number),
         }
     }
 

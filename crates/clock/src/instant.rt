@@ -87,7 +87,9 @@ impl Instant {
     pub fn is_at_or_before(self, other: Instant) -> bool
         ensures { λ r. ⌜ r ≡ due (self .millis) (other .millis) ⌝ }
     {
-        let gap = wrapped_gap(other.millis, self.millis);
+        let a = self.millis;
+        let b = other.millis;
+        let gap = wrapped_gap(b, a);
         gap <= HALF
     }
 

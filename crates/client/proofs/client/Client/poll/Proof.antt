@@ -1,10 +1,10 @@
 use mathlib.Core.Path.{sym, ap, _∙_}
 use mathlib.Core.Bool.{not}
+use borrow.Author.Tests.{not-false}
 use Rattle.clock.specs.Waits.{standardWaits}
 use Rattle.clock.specs.declared.waits.Waits.{Waits}
 use Rattle.machine.specs.Polling.{decided}
 use Rattle.client.proofs.Sendings.{poll-broken, poll-silent, poll-sends}
-use borrow.Author.Tests.{not-false}
 use Rattle.client.proofs.Wholes.{all-parts}
 use borrow.Author.Needs.{needs}
 use Rattle.client.proofs.client.Client.poll.Statement.{statement}
@@ -13,8 +13,11 @@ use Rattle.client.proofs.client.Client.poll.Tie as tie
 is-whole-with-requires : tie.Need-is-whole-with-requires
 is-whole-with-requires c κs = search needs
 
+refused-requires : tie.Need-refused-requires
+refused-requires c κs = search needs
+
 returns : tie.Need-returns
-returns c = poll-broken (c .before .before .before .args .self) (c .before .before .before .args .tables) (c .before .before .before .args .rand) (c .before .before .before .args .moment) _ standardWaits (ap not (sym (c .before .is-whole-with .ensures)) ∙ c .if1 .taken)
+returns c = poll-broken (c .before .before .before .before .args .self) (c .before .before .before .before .args .tables) (c .before .before .before .before .args .rand) (c .before .before .before .before .args .moment) _ standardWaits (ap not (sym (c .before .before .is-whole-with .ensures)) ∙ c .before .if1 .taken) (c .refused .ensures)
 
 standard-requires : tie.Need-standard-requires
 standard-requires c κs = search needs
@@ -48,6 +51,7 @@ poll-spec =
     tie.close
     (tie.spec
     is-whole-with-requires
+    refused-requires
     returns
     standard-requires
     decide-requires

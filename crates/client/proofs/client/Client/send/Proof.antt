@@ -33,6 +33,9 @@ settle-requires-2 c κs = search needs
 enum-told : tie.Need-enum-told
 enum-told c = search needs
 
+refused-requires : tie.Need-refused-requires
+refused-requires c κs = search needs
+
 same-length : tie.Need-same-length
 same-length c = search needs
 
@@ -43,7 +46,7 @@ same-length-2 : tie.Need-same-length-2
 same-length-2 c = search needs
 
 returns-3 : tie.Need-returns-3
-returns-3 c = sent-short (c .before .before .before .before .before .before .before .before .before .before .args .self) (c .before .before .before .before .before .before .before .before .before .before .args .tables) (c .before .before .before .before .before .before .before .before .before .before .args .rand) (c .before .before .before .before .before .before .before .before .before .before .args .wake) (c .before .before .before .before .before .before .before .before .before .before .args .sending) (c .before .before .before .before .before .before .before .before .before .before .pre) _ (c .before .before .before .before .before .before .before .if1 .left) (c .before .before .before .before .before .before .before .before .drawn .ensures) (c .before .before .before .before .before .before .route .ensures) (c .before .before .before .before .write .ensures) (c .enum-told .given .1)
+returns-3 c = sent-short (c .before .before .before .before .before .before .before .before .before .before .before .args .self) (c .before .before .before .before .before .before .before .before .before .before .before .args .tables) (c .before .before .before .before .before .before .before .before .before .before .before .args .rand) (c .before .before .before .before .before .before .before .before .before .before .before .args .wake) (c .before .before .before .before .before .before .before .before .before .before .before .args .sending) (c .before .before .before .before .before .before .before .before .before .before .before .pre) _ (c .before .before .before .before .before .before .before .before .if1 .left) (c .before .before .before .before .before .before .before .before .before .drawn .ensures) (c .before .before .before .before .before .before .before .route .ensures) (c .before .before .before .before .before .write .ensures) (c .before .enum-told .given .1) (c .refused .ensures)
 
 pub send-spec : {M : Type 1} → statement M
 send-spec =
@@ -59,6 +62,7 @@ send-spec =
     built-requires
     settle-requires-2
     enum-told
+    refused-requires
     same-length
     returns-2
     same-length-2
