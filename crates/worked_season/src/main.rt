@@ -15,14 +15,13 @@ mod tally;
 
 use libc::STDOUT_FILENO;
 use made::created;
-use season::Season;
 use tables::Outcome;
 
 fn main() {
     let created = created();
     let outcome = created.outcome;
     match outcome {
-        Outcome::Done => Season::new(created.post).run(),
+        Outcome::Done => season::run(created.post),
         Outcome::Refused(_) => {
             io::write_all(STDOUT_FILENO, b"no post was created\n");
         }

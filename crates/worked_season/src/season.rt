@@ -22,9 +22,10 @@ use std::num::wrapping_add_u32;
 use std::num::wrapping_add_u64;
 use std::num::wrapping_sub_u32;
 
-// The next call is a poll, or the reply of this type to what was heard, so many milliseconds after the last.
+// Beside the post: the next call is a poll, or the reply of this type to what was heard, so many milliseconds after the last,
+// which was made now.
 pub struct Season {
-    post: Post,
+    now: u32,
     // milliseconds from creation to the last call
     elapsed: u64,
     // how many months are over
@@ -38,6 +39,12 @@ pub struct Season {
     heard: Heard,
     reply: u32,
     step: u32,
+}
+
+// The post after a call, and the season with what it came to.
+struct Turn {
+    post: Post,
+    season: Season,
 }
 
 // Far more than there are; a season has to end.
@@ -59,13 +66,62 @@ const MONTHS: [u64; 7] = [
     214 * DAY,
 ];
 
+// The season of a post, to its end.
+pub fn run(created: Post) {
+    let mut post = created;
+    let mut season = Season::new(created.now.millis);
+    let mut calls = 0;
+    while calls < MOST_CALLS {
+        season = season.reach();
+        if season.over {
+            season.say(post);
+            return;
+        }
+        let turn = call(post, season);
+        post = turn.post;
+        season = turn.season;
+        calls += 1;
+    }
+    print(b"the season does not end\n");
+}
+
+fn call(post: Post, season: Season) -> Turn {
+    if season.reply == 0 {
+        return poll(post, season);
+    }
+    reply(post, season)
+}
+
+fn poll(post: Post, season: Season) -> Turn {
+    let mut buf = [LENT; 600];
+    let polled = post.poll(season.step, &mut buf);
+    let after = polled.post;
+    let outcome = polled.outcome;
+    Turn {
+        post: after,
+        season: season.polled(outcome, &buf),
+    }
+}
+
+fn reply(post: Post, season: Season) -> Turn {
+    let reply = Reply::new(season.heard, season.reply, season.naks);
+    let octets = reply.octets;
+    let replied = post.process(season.step, SERVER, up_to(&octets, reply.len));
+    let after = replied.post;
+    let outcome = replied.outcome;
+    Turn {
+        post: after,
+        season: season.replied(outcome),
+    }
+}
+
 impl Season {
-    pub fn new(post: Post) -> Season {
+    fn new(now: u32) -> Season {
         let tally = Tally::new();
         let digest = Digest::new();
         let heard = Heard::nothing();
         Season {
-            post,
+            now,
             elapsed: 0,
             months: 0,
             over: false,
@@ -77,32 +133,6 @@ impl Season {
             reply: 0,
             step: 0,
         }
-    }
-
-    pub fn run(self) {
-        let mut season = self;
-        let mut calls = 0;
-        while calls < MOST_CALLS {
-            season = season.next();
-            if season.over {
-                season.say();
-                return;
-            }
-            calls += 1;
-        }
-        print(b"the season does not end\n");
-    }
-
-    // The next call, if it is still in the season.
-    fn next(self) -> Season {
-        let season = self.reach();
-        if season.over {
-            return season;
-        }
-        if season.reply == 0 {
-            return season.poll();
-        }
-        season.replied()
     }
 
     // On to the next call. A month may be over before it, and with the last one the season.
@@ -136,22 +166,17 @@ impl Season {
     }
 
     fn stepped(mut self) -> Season {
-        let now = self.post.now.millis;
+        let now = wrapping_add_u32(self.now, self.step);
         let tally = self.tally;
-        let counted = tally.stepped(now, wrapping_add_u32(now, self.step));
+        let counted = tally.stepped(self.now, now);
         self.tally = counted;
+        self.now = now;
         self
     }
 
-    fn poll(mut self) -> Season {
-        let mut buf = [LENT; 600];
-        let post = self.post;
-        let polled = post.poll(self.step, &mut buf);
-        let after = polled.post;
-        let outcome = polled.outcome;
-        self.post = after;
+    fn polled(self, outcome: PollOutcome, buf: &[u8]) -> Season {
         match outcome {
-            PollOutcome::Answered(answer) => self.answered(answer, &buf),
+            PollOutcome::Answered(answer) => self.answered(answer, buf),
             PollOutcome::Refused(number) => self.refused(b"a poll is refused by ", number),
         }
     }
@@ -164,7 +189,7 @@ impl Season {
         let digested = digest.with_poll(answer, buf);
         self.tally = counted;
         self.digest = digested;
-        self.step = wrapping_sub_u32(answer.wake.millis, self.post.now.millis);
+        self.step = wrapping_sub_u32(answer.wake.millis, self.now);
         if answer.length == 0 {
             return self;
         }
@@ -183,15 +208,7 @@ impl Season {
         self
     }
 
-    fn replied(mut self) -> Season {
-        let heard = self.heard;
-        let reply = Reply::new(heard, self.reply, self.naks);
-        let octets = reply.octets;
-        let post = self.post;
-        let replied = post.process(self.step, SERVER, up_to(&octets, reply.len));
-        let after = replied.post;
-        let outcome = replied.outcome;
-        self.post = after;
+    fn replied(self, outcome: ReplyOutcome) -> Season {
         match outcome {
             ReplyOutcome::Taken { purge } => self.taken(purge),
             ReplyOutcome::PassedOver(number) => self.processed(number, false),
@@ -227,13 +244,13 @@ impl Season {
     }
 
     // The end of the season.
-    fn say(self) {
+    fn say(self, post: Post) {
         let tally = self.tally;
         let digest = self.digest;
         let whole = tally.whole;
         print(b"season");
         print_counts(whole, digest.value());
-        print_post(self.post);
+        print_post(post);
     }
 }
 

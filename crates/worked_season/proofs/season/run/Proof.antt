@@ -1,25 +1,31 @@
 use borrow.Author.Needs.{needs}
 use Prim.Native.Nat.{_-_}
-use Rattle.worked_season.proofs.season.Season.run.Statement.{statement}
-use Rattle.worked_season.proofs.season.Season.run.Tie as tie
+use Rattle.worked_season.proofs.season.run.Statement.{statement}
+use Rattle.worked_season.proofs.season.run.Tie as tie
 
 abbrev Inv-loop : tie.InvT-loop
-Inv-loop season₀ calls₀ t4 season calls = Unit {0}
+Inv-loop post₀ season₀ calls₀ t6 post season calls = Unit {0}
 
 abbrev μ-loop : tie.MeasureT-loop
-μ-loop season₀ calls₀ t4 season calls = 1000000 - calls
+μ-loop post₀ season₀ calls₀ t6 post season calls = 1000000 - calls
+
+new-requires : tie.Need-new-requires Inv-loop μ-loop
+new-requires c κs = search needs
 
 loop-holds : tie.Need-loop-holds Inv-loop μ-loop
 loop-holds c = tt
 
-next-requires : tie.Need-next-requires Inv-loop μ-loop
-next-requires c κs = search needs
+reach-requires : tie.Need-reach-requires Inv-loop μ-loop
+reach-requires c κs = search needs
 
 say-requires : tie.Need-say-requires Inv-loop μ-loop
 say-requires c κs = search needs
 
 returns : tie.Need-returns Inv-loop μ-loop
 returns c = search needs
+
+call-requires : tie.Need-call-requires Inv-loop μ-loop
+call-requires c κs = search needs
 
 add-calls : tie.Need-add-calls Inv-loop μ-loop
 add-calls c = search needs
@@ -45,10 +51,12 @@ run-spec =
     (tie.spec
     Inv-loop
     μ-loop
+    new-requires
     loop-holds
-    next-requires
+    reach-requires
     say-requires
     returns
+    call-requires
     add-calls
     loop-less
     loop-again
