@@ -1,7 +1,7 @@
 -- A call that is refused, or a reply that is passed over, leaves a post as it was, at its moment: the step is all that it moves.
 -- Assumes nothing.
 use Prim.Native.Nat.{ℕ}
-use mathlib.Core.Path.{_≡_, refl, sym, ap, _∙_}
+use mathlib.Core.Path.{_≡_, ap, _∙_}
 use mathlib.Core.Bool.{false}
 use mathlib.Core.List.{List}
 use Rattle.clock.specs.Waits.{standardWaits}

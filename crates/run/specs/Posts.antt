@@ -8,7 +8,7 @@ use Rattle.clock.specs.declared.rand.Rand.{Rand}
 use Rattle.tables.specs.declared.tables.Tables.{Tables}
 use Rattle.tables.specs.declared.manual.Changed.{Changed}
 use Rattle.settings.specs.declared.settings.Settings.{Settings}
-use Rattle.run.specs.Calls.{Manual, Query, Standing, Call, Poll, Reply, Reset, ByHand, LookUp, Calls, ours}
+use Rattle.run.specs.Calls.{Manual, Standing, Call, Poll, Reply, Reset, ByHand, LookUp, Calls, ours}
 use Rattle.run.specs.Demand3.{momentAfter, pollAt, stepped}
 use Rattle.run.specs.declared.post.Post.{Post}
 use Rattle.run.specs.declared.post.CreatedPost.{CreatedPost}

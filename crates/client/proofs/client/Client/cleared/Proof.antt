@@ -1,14 +1,9 @@
-use mathlib.Core.Path.{refl, sym, _∙_}
+use mathlib.Core.Path.{sym, _∙_}
 use Rattle.clock.proofs.Choices.{if-true, if-false}
 use Rattle.client.specs.Resets.{cleared}
 use borrow.Author.Needs.{needs}
 use Rattle.client.proofs.client.Client.cleared.Statement.{statement}
 use Rattle.client.proofs.client.Client.cleared.Tie as tie
-use Rattle.client.proofs.client.Client.cleared.Reads as reads
-use Rattle.client.proofs.client.Client.cleared.Lts as lts
-use Rattle.client.proofs.client.Client.dropped.Reads as dropped-reads
-use Rattle.client.proofs.client.Client.restarted.Reads as restarted-reads
-use Rattle.machine.proofs.state.ClientState.has_lease.Reads as has-lease-reads
 
 has-lease-requires : tie.Need-has-lease-requires
 has-lease-requires c κs = search needs

@@ -1,14 +1,9 @@
-use mathlib.Core.Path.{refl, sym, _∙_}
+use mathlib.Core.Path.{sym, _∙_}
 use Rattle.clock.proofs.Choices.{if-true, if-false}
 use Rattle.client.specs.Taken.{heldBy}
 use borrow.Author.Needs.{needs}
 use Rattle.client.proofs.client.Client.held.Statement.{statement}
 use Rattle.client.proofs.client.Client.held.Tie as tie
-use Rattle.client.proofs.client.Client.held.Reads as reads
-use Rattle.client.proofs.client.Client.held.Lts as lts
-use Rattle.lease.proofs.lease.DhcpLease.installed.Reads as installed-reads
-use Rattle.lease.proofs.lease.nothing.Reads as nothing-reads
-use Rattle.machine.proofs.state.ClientState.has_lease.Reads as has-lease-reads
 
 has-lease-requires : tie.Need-has-lease-requires
 has-lease-requires c κs = search needs

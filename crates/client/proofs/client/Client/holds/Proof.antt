@@ -4,10 +4,6 @@ use Rattle.client.specs.Taken.{holds}
 use borrow.Author.Needs.{needs}
 use Rattle.client.proofs.client.Client.holds.Statement.{statement}
 use Rattle.client.proofs.client.Client.holds.Tie as tie
-use Rattle.client.proofs.client.Client.holds.Reads as reads
-use Rattle.client.proofs.client.Client.holds.Lts as lts
-use Rattle.lease.proofs.lease.DhcpLease.equals.Reads as equals-reads
-use Rattle.machine.proofs.state.ClientState.has_lease.Reads as has-lease-reads
 
 has-lease-requires : tie.Need-has-lease-requires
 has-lease-requires c κs = search needs

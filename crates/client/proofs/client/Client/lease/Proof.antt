@@ -5,11 +5,6 @@ use Rattle.client.specs.Lookups.{leaseHeld}
 use borrow.Author.Needs.{needs}
 use Rattle.client.proofs.client.Client.lease.Statement.{statement}
 use Rattle.client.proofs.client.Client.lease.Tie as tie
-use Rattle.client.proofs.client.Client.lease.Reads as reads
-use Rattle.client.proofs.client.Client.lease.Lts as lts
-use Rattle.client.proofs.client.Client.is_whole.Reads as is-whole-reads
-use Rattle.client.proofs.lookup.unheld.Reads as unheld-reads
-use Rattle.machine.proofs.state.ClientState.has_lease.Reads as has-lease-reads
 
 is-whole-requires : tie.Need-is-whole-requires
 is-whole-requires c κs = search needs

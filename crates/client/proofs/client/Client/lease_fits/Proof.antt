@@ -4,10 +4,6 @@ use Rattle.client.specs.Clients.{leaseFits}
 use borrow.Author.Needs.{needs}
 use Rattle.client.proofs.client.Client.lease_fits.Statement.{statement}
 use Rattle.client.proofs.client.Client.lease_fits.Tie as tie
-use Rattle.client.proofs.client.Client.lease_fits.Reads as reads
-use Rattle.client.proofs.client.Client.lease_fits.Lts as lts
-use Rattle.lease.proofs.lease.DhcpLease.is_whole.Reads as is-whole-reads
-use Rattle.machine.proofs.state.ClientState.has_lease.Reads as has-lease-reads
 
 has-lease-requires : tie.Need-has-lease-requires
 has-lease-requires c κs = search needs
