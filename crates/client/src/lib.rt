@@ -1,7 +1,8 @@
-// The DHCP client of a post, by value: its settings and creation, its lease, replies, resets, and what can be looked up.
-// Ports the rest of iface/dhcpv4.rs; of the poll there is what it answers, and specs/Polls.antt says what it does.
+// The DHCP client of a post, by value: its creation, polls, replies, resets, and what can be looked up. Ports the rest of
+// iface/dhcpv4.rs.
 //
-// Any client, tables, reply and moment have an answer: a result, or a number of document 01, and then nothing has changed.
+// Any client, tables, generator, reply, moment and buffer have an answer: a result, or a number of document 01, and then
+// nothing has changed.
 
 mod apply;
 pub mod client;
