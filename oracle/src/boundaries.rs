@@ -448,6 +448,14 @@ pub fn polls() -> Vec<Call> {
             }
         }
     }
+    // What is left until rebinding, or until expiry, counts as at most 2^30, and half of that is waited.
+    for left in [(1 << 30) - 2, 1 << 30, (1 << 30) + 2, HALF - 1] {
+        let end = NOW.wrapping_add(left);
+        for rebind_at in [end, NOW] {
+            let state = State::Renewing { renew_at: NOW, rebind_at, expires_at: end, rebinding: false };
+            poll(&mut list, standard(), state, enough);
+        }
+    }
     list.calls
 }
 

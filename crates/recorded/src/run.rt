@@ -1,93 +1,86 @@
-// A list, call by call, with the Rust's answer to each.
-use crate::masks;
-use crate::messages;
-use crate::post::Post;
-use crate::post::answered;
-use crate::post::untold;
-use crate::post::which;
-use crate::post::with_line;
-use crate::tally::MASKS_AND_OPTIONS;
-use crate::tally::Tally;
-use crate::tally::more;
+// The list, call by call, with the Rust's answer to each.
+use crate::masks::mask;
+use crate::masks::option;
 use libc::STDOUT_FILENO;
+use trace::after_line;
+use trace::begins;
+use trace::line_at;
 
-// What a line of a list begins with: a call that is compared, `start`, or from there on what is no call. Any other line that
-// is not empty is a call too, and has an answer.
-const POLL: usize = 1;
-
-const MASK: usize = 2;
-
-const OPTION: usize = 3;
-
-const START: usize = 4;
-
-fn word_of(line: &[u8]) -> usize {
-    which(
-        line,
-        b"poll \nmask \noption \nstart \nsettings \ninit \ndiscovering \nrequesting \nrenewing \nlease \ntables \naddress \nroute \ngenerator \n#",
-    )
+// How many answers were compared and how many are the Rust's; where the next answer begins.
+pub struct Tally {
+    compared: u32,
+    equal: u32,
+    answer: usize,
 }
 
-// The calls are the start of the text, the answers follow.
-pub fn run(name: &[u8], calls: &[u8], text: &[u8]) -> Tally {
-    let mut post = untold(calls.len());
-    let mut tally = Tally::new();
+// The calls are the start of the text, the answers follow, a line each.
+pub fn run(calls: &[u8], text: &[u8]) -> Tally {
+    let mut tally = Tally {
+        compared: 0,
+        equal: 0,
+        answer: calls.len(),
+    };
     let mut at = 0;
-    let mut number = 1;
     while at < calls.len() {
-        let line = trace::line_at(calls, at);
-        let after = told(text, line, at, post);
-        let before = tally.differences;
-        tally = compared(text, line, post.answer, after, tally);
-        say_difference(name, number, before, tally.differences);
-        post = after;
-        at = trace::after_line(calls, at);
-        number = more(number);
+        tally = compared(text, line_at(calls, at), tally);
+        at = after_line(calls, at);
     }
-    if post.answer < text.len() {
+    if tally.answer < text.len() {
         io::write_all(STDOUT_FILENO, b"answers without a call\n");
     }
     tally
 }
 
-// The post after a record of the list: as the line says, or as the answer to a call does.
-fn told(text: &[u8], line: &[u8], at: usize, post: Post) -> Post {
-    let word = word_of(line);
-    if word == START {
-        return untold(post.answer);
+// Compares the answer to a call.
+fn compared(text: &[u8], call: &[u8], tally: Tally) -> Tally {
+    let answer = line_at(text, tally.answer);
+    let next = after_line(text, tally.answer);
+    if begins(call, b"mask ") {
+        return counted(call, mask(call, answer), next, tally);
     }
-    if START < word {
-        return with_line(post, line, at);
+    if begins(call, b"option ") {
+        return counted(call, option(call, answer), next, tally);
     }
-    if line.len() == 0 {
-        return post;
-    }
-    answered(text, post)
-}
-
-// Says a line of the list after which there are more differences.
-fn say_difference(name: &[u8], line: u32, before: u32, after: u32) {
-    if after <= before {
-        return;
-    }
-    io::write_all(STDOUT_FILENO, name);
-    io::write_all(STDOUT_FILENO, b" line ");
-    io::print_decimal(STDOUT_FILENO, line as u64);
-    io::write_all(STDOUT_FILENO, b": not as the Rust answered\n");
-}
-
-// Compares the answer to a call, if it is one that is compared.
-fn compared(text: &[u8], call: &[u8], answer: usize, after: Post, tally: Tally) -> Tally {
-    let word = word_of(call);
-    let first = trace::line_at(text, answer);
-    if word == POLL {
-        return messages::poll(text, call, first, after, tally);
-    }
-    if word == MASK {
-        return tally.count(MASKS_AND_OPTIONS, masks::mask(call, first));
-    }
-    if word == OPTION {
-        return tally.count(MASKS_AND_OPTIONS, masks::option(call, first));
+    if !begins(call, b"#") {
+        say(b"malformed: ", call);
     }
     tally
+}
+
+// One answer more, after which the next begins at a place.
+fn counted(call: &[u8], same: bool, next: usize, tally: Tally) -> Tally {
+    let mut equal = tally.equal;
+    if same {
+        equal = more(equal);
+    } else {
+        say(b"not as the Rust answered: ", call);
+    }
+    Tally {
+        compared: more(tally.compared),
+        equal,
+        answer: next,
+    }
+}
+
+fn say(words: &[u8], line: &[u8]) {
+    io::write_all(STDOUT_FILENO, words);
+    io::write_all(STDOUT_FILENO, line);
+    io::write_all(STDOUT_FILENO, b"\n");
+}
+
+// One more, or the largest number.
+fn more(n: u32) -> u32 {
+    if n < 4294967295 {
+        return n + 1;
+    }
+    n
+}
+
+impl Tally {
+    pub fn print(self) {
+        io::print_decimal(STDOUT_FILENO, self.compared as u64);
+        io::write_all(STDOUT_FILENO, b" masks and options, as the Rust answered: ");
+        io::print_decimal(STDOUT_FILENO, self.equal as u64);
+        io::write_all(STDOUT_FILENO, b"\n");
+    }
 }

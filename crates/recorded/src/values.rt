@@ -1,8 +1,5 @@
 // Records read by their forms: values stand in the form's order, and octets give two, the place of their first digit and how
 // many they are.
-use crate::tally::DISCOVERS;
-use crate::tally::RENEWALS;
-use crate::tally::REQUESTS;
 use libc::STDOUT_FILENO;
 use octets::MaybeNumber;
 
@@ -16,47 +13,6 @@ pub fn read(line: &[u8], form: &[u8]) -> [u64; 16] {
         return [18446744073709551615; 16];
     }
     record.values
-}
-
-// Settings, all zero where none are told.
-pub fn read_settings(line: &[u8]) -> [u64; 16] {
-    if line.len() == 0 {
-        return [0; 16];
-    }
-    read(
-        line,
-        b"settings medium=%c mtu=%h hardware=%x offload=%b name=%x listed=%b list=%x extra=%x capped=%b maximum=%w ignore_naks=%b",
-    )
-}
-
-pub fn read_lease(line: &[u8]) -> [u64; 16] {
-    read(
-        line,
-        b"lease server=%a identifier=%a address=%a/%c routed=%b router=%a dns=%c %a %a %a options=%x",
-    )
-}
-
-// A state of this kind, all zero where none is told; its first value is the id.
-pub fn read_state(line: &[u8], kind: usize) -> [u64; 16] {
-    if line.len() == 0 {
-        return [0; 16];
-    }
-    if kind == DISCOVERS {
-        return read(line, b"discovering id=%w retry_at=%w");
-    }
-    if kind == REQUESTS {
-        return read(
-            line,
-            b"requesting id=%w retry_at=%w retry=%h server=%a identifier=%a requested=%a",
-        );
-    }
-    if kind == RENEWALS {
-        return read(
-            line,
-            b"renewing id=%w renew_at=%w rebind_at=%w expires_at=%w rebinding=%b",
-        );
-    }
-    read(line, b"init id=%w")
 }
 
 pub fn word(value: u64) -> u32 {

@@ -5,7 +5,7 @@ use Rattle.recorded.proofs.space.Statement.{statement}
 use Rattle.recorded.proofs.space.Tie as tie
 
 returns : tie.Need-returns
-returns c = sym (length-replicate {0} {A = ℕ} 2097152 0)
+returns c = sym (length-replicate {0} {A = ℕ} 1048576 0)
 
 pub space-spec : {M : Type 1} → statement M
 space-spec = tie.close (tie.spec returns)

@@ -5,16 +5,10 @@ use Rattle.recorded.proofs.run.run.Statement.{statement}
 use Rattle.recorded.proofs.run.run.Tie as tie
 
 abbrev Inv-loop : tie.InvT-loop
-Inv-loop name calls text post₀ tally₀ at₀ number₀ t11 post tally at number = Unit {0}
+Inv-loop calls text tally₀ at₀ t5 tally at = Unit {0}
 
 abbrev μ-loop : tie.MeasureT-loop
-μ-loop name calls text post₀ tally₀ at₀ number₀ t11 post tally at number = length calls - at
-
-untold-requires : tie.Need-untold-requires Inv-loop μ-loop
-untold-requires c κs = search needs
-
-new-requires : tie.Need-new-requires Inv-loop μ-loop
-new-requires c κs = search needs
+μ-loop calls text tally₀ at₀ t5 tally at = length calls - at
 
 loop-holds : tie.Need-loop-holds Inv-loop μ-loop
 loop-holds c = tt
@@ -22,20 +16,11 @@ loop-holds c = tt
 line-at-requires : tie.Need-line-at-requires Inv-loop μ-loop
 line-at-requires c κs = search needs
 
-told-requires : tie.Need-told-requires Inv-loop μ-loop
-told-requires c κs = search needs
-
 compared-requires : tie.Need-compared-requires Inv-loop μ-loop
 compared-requires c κs = search needs
 
-say-difference-requires : tie.Need-say-difference-requires Inv-loop μ-loop
-say-difference-requires c κs = search needs
-
 after-line-requires : tie.Need-after-line-requires Inv-loop μ-loop
 after-line-requires c κs = search needs
-
-more-requires : tie.Need-more-requires Inv-loop μ-loop
-more-requires c κs = search needs
 
 loop-less : tie.Need-loop-less Inv-loop μ-loop
 loop-less c = search needs
@@ -61,15 +46,10 @@ run-spec =
     (tie.spec
     Inv-loop
     μ-loop
-    untold-requires
-    new-requires
     loop-holds
     line-at-requires
-    told-requires
     compared-requires
-    say-difference-requires
     after-line-requires
-    more-requires
     loop-less
     loop-again
     slice-aggregate-write-all
