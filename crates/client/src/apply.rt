@@ -82,7 +82,7 @@ impl Client {
     }
 
     // Whose lease an ACK brings: the server's that made the offer, or that leased the address. Other states await no ACK.
-    fn server(self, sender: DhcpServerInfo) -> DhcpServerInfo
+    pub fn server(self, sender: DhcpServerInfo) -> DhcpServerInfo
         ensures { λ r. ⌜ r ≡ serverOf (self .state) (self .lease) sender ⌝ }
     {
         let held = self.lease.server;
@@ -96,7 +96,7 @@ impl Client {
     }
 
     // Whether this lease is the one that is held.
-    fn holds(self, lease: DhcpLease) -> bool
+    pub fn holds(self, lease: DhcpLease) -> bool
         ensures { λ r. ⌜ r ≡ holds (self .state) (self .lease) lease ⌝ }
     {
         let held = self.lease;
@@ -108,7 +108,7 @@ impl Client {
     }
 
     // What the lease that is held has put into the tables.
-    pub(crate) fn held(self) -> Installed
+    pub fn held(self) -> Installed
         ensures { λ r. ⌜ r ≡ heldBy (self .state) (self .lease) ⌝ }
     {
         let lease = self.lease;

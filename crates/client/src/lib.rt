@@ -15,6 +15,7 @@ pub use client::Client;
 pub use client::Created;
 pub use lookup::Leased;
 pub use lookup::Standing;
+pub use poll::Made;
 pub use poll::PollAnswer;
 pub use poll::PollOutcome;
 pub use poll::Polled;

@@ -1,18 +1,19 @@
 // Polls: what is due is decided, then measured and written, then settled.
 ghost use mathlib.Core.Path.{_≡_};
-ghost use mathlib.Core.Bool.{true};
 ghost use lib.ListN.{length};
 ghost use Rattle.clock.specs.Waits.{standardWaits};
 ghost use Rattle.message.specs.Written.{written, bufferAfter};
 ghost use Rattle.settings.specs.Settings.{nameOf, listOf, extraOf};
-ghost use Rattle.client.specs.Clients.{wholeClient};
-ghost use Rattle.client.specs.Polls.{draws, drawnFor, fieldsOf, renewsTo, routeOf, kept, madeReady, awaiting, refusal, silent, built, purging, settledBy, sent, polled};
+ghost use Rattle.client.specs.Resets.{dropped};
+ghost use Rattle.client.specs.Polls.{draws, drawnFor, fieldsOf, renewsTo, routeOf, silent, built, purging, polled};
+ghost use Rattle.client.specs.Changes.{unmoved, drops, movedBy, madeSent, made, leftBy, after};
 use crate::client::Client;
-use crate::reset::Settled;
 use clock::Drawn32;
 use clock::Instant;
 use clock::Rand;
 use clock::Waits;
+use lease::DhcpLease;
+use lease::nothing;
 use machine::ClientState;
 use machine::Due;
 use machine::Sending;
@@ -47,6 +48,15 @@ pub struct Polled {
     pub outcome: PollOutcome,
 }
 
+// What a poll changes: whether the lease goes, the client's state and id after it, the generator and the answer.
+pub struct Made {
+    pub drops: bool,
+    pub state: ClientState,
+    pub id: u32,
+    pub rand: Rand,
+    pub outcome: PollOutcome,
+}
+
 // Value of option 53, a Discover.
 const DISCOVER: u8 = 1;
 
@@ -61,57 +71,137 @@ impl Client {
         ensures { λ r. ⌜ (r ≡ polled standardWaits self tables rand moment (now (buf .entry)) .polled) × (now (buf .exit) ≡ polled standardWaits self tables rand moment (now (buf .entry)) .buffer) ⌝ }
     {
         if !self.is_whole_with(tables) {
-            return self.refused(tables, rand, 9);
+            return Polled {
+                client: self,
+                tables,
+                rand,
+                outcome: PollOutcome::Refused(9),
+            };
         }
+        let made = self.made(rand, moment, buf);
+        self.after(tables, made)
+    }
+
+    // What the poll of a client that was found whole changes: for whoever holds client and tables, and would not hand them
+    // about. Of any other client too, and then 8 stands for whatever keeps the message from being written.
+    pub fn made(self, rand: Rand, moment: Instant, buf: &mut [u8]) -> Made
+        ensures { λ r. ⌜ (r ≡ made standardWaits self rand moment (now (buf .entry)) .made) × (now (buf .exit) ≡ made standardWaits self rand moment (now (buf .entry)) .buffer) ⌝ }
+    {
         let state = self.state;
         let decision = state.decide(Waits::standard(), moment);
         let due = decision.due;
         let wake = decision.wake;
         match due {
-            Due::Nothing => Polled {
-                client: self,
-                tables,
-                rand,
-                outcome: PollOutcome::Answered(PollAnswer::silent(wake)),
-            },
-            Due::Send(sending) => self.send(tables, rand, wake, sending, buf),
+            Due::Nothing => self.unmoved(rand, PollOutcome::Answered(PollAnswer::silent(wake))),
+            Due::Send(sending) => self.send(rand, wake, sending, buf),
         }
     }
 
-    // The rest of a whole client's poll in which a message is due.
-    fn send(
-        self,
-        tables: Tables,
-        rand: Rand,
-        wake: Instant,
-        sending: Sending,
-        buf: &mut [u8],
-    ) -> Polled
-        requires { ⌜ wholeClient self ≡ true ⌝ }
-        ensures { λ r. ⌜ (r ≡ sent self tables rand (now (buf .entry)) wake sending .polled) × (now (buf .exit) ≡ sent self tables rand (now (buf .entry)) wake sending .buffer) ⌝ }
+    // Client, tables and generator once that is changed, and the answer.
+    pub fn after(self, tables: Tables, made: Made) -> Polled
+        ensures { λ r. ⌜ r ≡ after self tables made ⌝ }
+    {
+        if made.drops {
+            return self.dropping(tables, made);
+        }
+        let settings = self.settings;
+        let state = made.state;
+        let lease = self.lease;
+        let rand = made.rand;
+        let outcome = made.outcome;
+        Polled {
+            client: Client {
+                settings,
+                ignore_naks: self.ignore_naks,
+                state,
+                lease,
+                transaction_id: made.id,
+            },
+            tables,
+            rand,
+            outcome,
+        }
+    }
+
+    // The same where the lease goes, and with it what it has put into the tables.
+    fn dropping(self, tables: Tables, made: Made) -> Polled
+        ensures { λ r. ⌜ r ≡ leftBy (dropped self tables) made ⌝ }
+    {
+        let held = self.lease;
+        let applied = tables.dhcpv4_apply(nothing(), held.installed());
+        let left = applied.tables;
+        let settings = self.settings;
+        let state = made.state;
+        let lease = DhcpLease::zero();
+        let rand = made.rand;
+        let outcome = made.outcome;
+        Polled {
+            client: Client {
+                settings,
+                ignore_naks: self.ignore_naks,
+                state,
+                lease,
+                transaction_id: made.id,
+            },
+            tables: left,
+            rand,
+            outcome,
+        }
+    }
+
+    // The rest of a poll in which a message is due.
+    fn send(self, rand: Rand, wake: Instant, sending: Sending, buf: &mut [u8]) -> Made
+        ensures { λ r. ⌜ (r ≡ madeSent self rand (now (buf .entry)) wake sending .made) × (now (buf .exit) ≡ madeSent self rand (now (buf .entry)) wake sending .buffer) ⌝ }
     {
         let drawn = self.drawn(rand, sending);
         if buf.len() == 0 {
-            return self.settle(tables, drawn, sending, PollAnswer::silent(wake));
+            return self.moved(drawn, sending, PollAnswer::silent(wake));
         }
         let route = self.route(sending);
         match self.write(drawn.value, sending, route, buf) {
-            Answer::Length(n) => {
-                self.settle(tables, drawn, sending, PollAnswer::built(n, route, wake))
-            }
-            Answer::Refused(_) => self.refused(tables, rand, 8),
+            Answer::Length(n) => self.moved(drawn, sending, PollAnswer::built(n, route, wake)),
+            Answer::Refused(_) => self.unmoved(rand, PollOutcome::Refused(8)),
         }
     }
 
-    // All as it came, with the number of the refusal.
-    fn refused(self, tables: Tables, rand: Rand, number: u32) -> Polled
-        ensures { λ r. ⌜ r ≡ refusal self tables rand number ⌝ }
+    // Nothing is sent: all as it came, with the answer or the number of the refusal.
+    fn unmoved(self, rand: Rand, outcome: PollOutcome) -> Made
+        ensures { λ r. ⌜ r ≡ unmoved self rand outcome ⌝ }
     {
-        Polled {
-            client: self,
-            tables,
+        let state = self.state;
+        Made {
+            drops: false,
+            state,
+            id: self.transaction_id,
             rand,
-            outcome: PollOutcome::Refused(number),
+            outcome,
+        }
+    }
+
+    // A message is sent.
+    fn moved(self, drawn: Drawn32, sending: Sending, answer: PollAnswer) -> Made
+        ensures { λ r. ⌜ r ≡ movedBy self drawn sending answer ⌝ }
+    {
+        let drops = self.drops(sending);
+        let rand = drawn.rand;
+        Made {
+            drops,
+            state: sending.following(),
+            id: drawn.value,
+            rand,
+            outcome: PollOutcome::Answered(answer.purging(drops)),
+        }
+    }
+
+    // Whether a lease goes where a message is sent.
+    fn drops(self, sending: Sending) -> bool
+        ensures { λ r. ⌜ r ≡ drops self sending ⌝ }
+    {
+        let state = self.state;
+        match sending {
+            Sending::Discover(_) => state.has_lease(),
+            Sending::Request(_) => false,
+            Sending::Renew(_) => false,
         }
     }
 
@@ -190,59 +280,6 @@ impl Client {
     {
         let settings = self.settings;
         settings.write(self.fields(id, sending), route, buf)
-    }
-
-    // The client, its tables and the generator once a message is sent, and the answer.
-    fn settle(self, tables: Tables, drawn: Drawn32, sending: Sending, answer: PollAnswer) -> Polled
-        ensures { λ r. ⌜ r ≡ settledBy self tables drawn sending answer ⌝ }
-    {
-        let settled = self.made_ready(tables, sending);
-        let ready = settled.client;
-        let left = settled.tables;
-        let client = ready.awaiting(sending.following(), drawn.value);
-        let rand = drawn.rand;
-        Polled {
-            client,
-            tables: left,
-            rand,
-            outcome: PollOutcome::Answered(answer.purging(settled.purge)),
-        }
-    }
-
-    // The client and its tables before a message is sent: a Discover drops the lease.
-    fn made_ready(self, tables: Tables, sending: Sending) -> Settled
-        ensures { λ r. ⌜ r ≡ madeReady self tables sending ⌝ }
-    {
-        match sending {
-            Sending::Discover(_) => self.cleared(tables),
-            Sending::Request(_) => self.kept(tables),
-            Sending::Renew(_) => self.kept(tables),
-        }
-    }
-
-    fn kept(self, tables: Tables) -> Settled
-        ensures { λ r. ⌜ r ≡ kept self tables ⌝ }
-    {
-        Settled {
-            client: self,
-            tables,
-            purge: false,
-        }
-    }
-
-    // The client in the state that follows a message, with the message's id.
-    fn awaiting(self, state: ClientState, id: u32) -> Client
-        ensures { λ r. ⌜ r ≡ awaiting self state id ⌝ }
-    {
-        let settings = self.settings;
-        let lease = self.lease;
-        Client {
-            settings,
-            ignore_naks: self.ignore_naks,
-            state,
-            lease,
-            transaction_id: id,
-        }
     }
 }
 

@@ -39,7 +39,7 @@ impl Client {
     }
 
     // What of this client decides on a reply.
-    fn recipient(self) -> Recipient
+    pub fn recipient(self) -> Recipient
         ensures { λ r. ⌜ r ≡ recipientOf self ⌝ }
     {
         let hardware = self.settings.hardware;

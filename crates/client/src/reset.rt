@@ -52,7 +52,7 @@ impl Client {
     }
 
     // Whether number 9 finds nothing in the client and its tables.
-    pub(crate) fn is_whole_with(self, tables: Tables) -> bool
+    pub fn is_whole_with(self, tables: Tables) -> bool
         ensures { λ r. ⌜ r ≡ wholeAll self tables ⌝ }
     {
         if self.is_whole() {

@@ -16,7 +16,7 @@ pub(crate) fn put_bytes(buf: &mut [u8], at: usize, body: &[u8]) -> usize
     requires { ⌜ at + length (now body) ≤ length (now buf) ⌝ }
     ensures { λ r. ⌜ Wrote at (now (body .entry)) (now (buf .entry)) r (now (buf .exit)) ⌝ }
 {
-    at + octets::run::put_bytes_at(buf, at, body)
+    at + octets::span::put_bytes_at(buf, at, body)
 }
 
 // An option.
@@ -24,7 +24,7 @@ pub(crate) fn put_option(buf: &mut [u8], at: usize, kind: u8, body: &[u8]) -> us
     requires { ⌜ (length (now body) ≤ 255) × (at + (2 + length (now body)) ≤ length (now buf)) ⌝ }
     ensures { λ r. ⌜ Wrote at (option kind (now (body .entry))) (now (buf .entry)) r (now (buf .exit)) ⌝ }
 {
-    at + octets::run::put_option_at(buf, at, kind, body)
+    at + octets::span::put_option_at(buf, at, kind, body)
 }
 
 // An option, where it is given.

@@ -1,6 +1,6 @@
 // The Internet checksum.
 ghost use mathlib.Core.Path.{_≡_};
-ghost use Prim.Native.Nat.{_≤_};
+ghost use Prim.Native.Nat.{_+_, _*_, _≤_, _<_};
 ghost use lib.ListN.{length};
 ghost use Rattle.octets.specs.Words.{word16};
 ghost use Rattle.message.specs.Datagrams.{onesAdd, onesSum, complement, checksum, pseudoHeader};
@@ -50,21 +50,51 @@ fn carried(start: u16, s: &[u8]) -> u16
     sum
 }
 
-// The same with the carries added in at the end (RFC 1071, section 2), which takes about half the instructions.
+// The same with the carries added in at the end, of words with the low octet first (RFC 1071, section 2): about one instruction
+// a word.
 fn deferred(start: u16, s: &[u8]) -> u16
     requires { ⌜ length (now s) ≤ 65535 ⌝ }
     ensures { λ r. ⌜ r ≡ onesSum start (now (s .entry)) ⌝ }
 {
-    let mut sum = start as u32;
+    let mut sum: u32 = 0;
     let mut t = s;
-    while 2 <= t.len() {
-        sum = sum + octets::word::join2(t[0], t[1]);
-        t = &t[2..];
+    while 4 <= t.len() {
+        sum = sum + octets::word::join2(t[1], t[0]) + octets::word::join2(t[3], t[2]);
+        t = &t[4..];
     }
+    with_word(start, sum, t)
+}
+
+// The end of that: sum is of the words before t, the last 3 octets at most.
+fn with_word(start: u16, sum: u32, t: &[u8]) -> u16
+    requires { ⌜ sum + 65535 * length (now t) ≤ 4294901760 ⌝ }
+    requires { ⌜ length (now t) < 4 ⌝ }
+    ensures { λ r. ⌜ r ≡ onesSum (carriedIn (start + 256 * sum)) (now (t .entry)) ⌝ }
+{
+    if 2 <= t.len() {
+        return with_octet(start, sum + octets::word::join2(t[1], t[0]), &t[2..]);
+    }
+    with_octet(start, sum, t)
+}
+
+// The same where t is at most one octet, the high one of a word.
+fn with_octet(start: u16, sum: u32, t: &[u8]) -> u16
+    requires { ⌜ sum + 65535 * length (now t) ≤ 4294901760 ⌝ }
+    requires { ⌜ length (now t) < 2 ⌝ }
+    ensures { λ r. ⌜ r ≡ onesSum (carriedIn (start + 256 * sum)) (now (t .entry)) ⌝ }
+{
     if t.len() == 1 {
-        return folded(sum + octets::word::join2(t[0], 0));
+        return swapped(start, sum + octets::word::join2(0, t[0]));
     }
-    folded(sum)
+    swapped(start, sum)
+}
+
+// Start and a plain sum of words with the low octet first, whose octets are swapped back once its carries are in.
+fn swapped(start: u16, sum: u32) -> u16
+    ensures { λ r. ⌜ r ≡ carriedIn (start + 256 * sum) ⌝ }
+{
+    let low = folded(sum) as u32;
+    folded(start as u32 + low % 256 * 256 + low / 256)
 }
 
 // A plain sum of words with its carries added in at the low end, twice, since the first time can carry again.

@@ -7,7 +7,7 @@
 pub mod address;
 pub mod item;
 pub mod number;
-pub mod run;
+pub mod span;
 pub mod word;
 
 pub use number::MaybeNumber;

@@ -5,7 +5,7 @@ ghost use lib.ListN.{take, drop};
 ghost use Rattle.octets.specs.Words.{word16, word32, bytes16, bytes32, word16At, word32At};
 ghost use Rattle.octets.specs.Runs.{placed, placedLength};
 use crate::number::MaybeNumber;
-use crate::run::put_bytes_at;
+use crate::span::put_bytes_at;
 
 // Two octets as a number.
 pub fn join2(a: u8, b: u8) -> u32

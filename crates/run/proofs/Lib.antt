@@ -1,4 +1,5 @@
 pub mod Steps
+pub mod Replies
 pub mod Kept
 pub mod Answers
 pub mod Polls

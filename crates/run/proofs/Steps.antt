@@ -1,21 +1,24 @@
 -- What a post's call comes to, from the client's own call at the post's next moment. Assumes nothing.
 use Prim.Native.Nat.{ℕ}
 use mathlib.Core.Path.{_≡_, ap, _∙_}
+use mathlib.Core.Bool.{true, false, not}
 use mathlib.Core.List.{List}
 use Rattle.clock.specs.Waits.{standardWaits}
 use Rattle.clock.specs.declared.instant.Instant.{Instant}
 use Rattle.client.specs.Taken.{processed}
-use Rattle.client.specs.Resets.{wasReset}
-use Rattle.client.specs.Polls.{polled}
+use Rattle.client.specs.Resets.{wholeAll, wasReset}
+use Rattle.client.specs.Polls.{kept, refusal, polled}
+use Rattle.client.specs.Changes.{made, leftBy, after}
+use Rattle.client.specs.declared.poll.Made.{Made}
 use Rattle.client.specs.declared.poll.Polled.{Polled}
 use Rattle.client.specs.declared.process.Processed.{Processed}
 use Rattle.client.specs.declared.reset.WasReset.{WasReset}
+use Rattle.client.proofs.Sendings.{after-kept, poll-broken, poll-made}
 use Rattle.tables.specs.declared.manual.Changed.{Changed}
 use Rattle.run.specs.Demand3.{momentAfter}
-use Rattle.run.specs.Posts.{polledPost, bufferOf, repliedPost, resetPost, laterPost, withTables}
+use Rattle.run.specs.Posts.{polledPost, bufferOf, repliedPost, resetPost, laterPost, withTables, withProcessed}
 use Rattle.run.specs.declared.post.Post.{Post}
 use Rattle.run.specs.declared.post.PolledPost.{PolledPost}
-use Rattle.run.specs.declared.post.RepliedPost.{RepliedPost}
 use Rattle.run.specs.declared.post.ResetPost.{ResetPost}
 use Rattle.run.specs.declared.post.ChangedPost.{ChangedPost}
 
@@ -31,11 +34,21 @@ module _ (p : Post) (step : ℕ) {now : Instant} (e : now ≡ momentAfter p step
     h .1 ∙ ap (λ (m : Instant). polled standardWaits (p .client) (p .tables) (p .rand) m b .buffer) e,
   )
 
-  abbrev withProcessed : Instant → Processed → RepliedPost
-  withProcessed m r = record { post = record { client = r .client; tables = r .tables; rand = p .rand; now = m }; outcome = r .outcome }
+  -- from what the poll changes: where 9 refuses it, where the lease goes, and where it stays
+  module _ (b : List ℕ) where
+    pub polls-broken : not (wholeAll (p .client) (p .tables)) ≡ true → (withPolled now (refusal (p .client) (p .tables) (p .rand) 9) ≡ polledPost p step b) × (b ≡ bufferOf p step b)
+    polls-broken h = polls b (poll-broken (p .client) (p .tables) (p .rand) now b standardWaits h)
 
-  pub processes : (source : ℕ) (bytes : List ℕ) {r : Processed} → r ≡ processed (p .client) (p .tables) source bytes now → withProcessed now r ≡ repliedPost p step source bytes
-  processes source bytes h = ap (withProcessed now) h ∙ ap (λ (m : Instant). withProcessed m (processed (p .client) (p .tables) source bytes m)) e
+    module _ {m : Made} {b′ : List ℕ} (h : not (wholeAll (p .client) (p .tables)) ≡ false)
+        (o : (m ≡ made standardWaits (p .client) (p .rand) now b .made) × (b′ ≡ made standardWaits (p .client) (p .rand) now b .buffer)) where
+      pub polls-dropping : {r : Polled} → r ≡ after (p .client) (p .tables) m → (withPolled now r ≡ polledPost p step b) × (b′ ≡ bufferOf p step b)
+      polls-dropping f = polls b (poll-made (p .client) (p .tables) (p .rand) now b standardWaits h o f)
+
+      pub polls-keeping : m .drops ≡ false → (withPolled now (leftBy (kept (p .client) (p .tables)) m) ≡ polledPost p step b) × (b′ ≡ bufferOf p step b)
+      polls-keeping d = polls-dropping (after-kept (p .client) (p .tables) m d)
+
+  pub processes : (source : ℕ) (bytes : List ℕ) {r : Processed} → r ≡ processed (p .client) (p .tables) source bytes now → withProcessed p now r ≡ repliedPost p step source bytes
+  processes source bytes h = ap (withProcessed p now) h ∙ ap (λ (m : Instant). withProcessed p m (processed (p .client) (p .tables) source bytes m)) e
 
   abbrev withReset : Instant → WasReset → ResetPost
   withReset m r = record { post = record { client = r .client; tables = r .tables; rand = p .rand; now = m }; outcome = r .outcome }

@@ -2,6 +2,7 @@
 // "The run in demand 3", and the theorem about every such list: specs/Demand3.antt states it, proofs/Whole.antt proves it.
 
 pub mod post;
+mod taken;
 
 pub use post::ChangedPost;
 pub use post::CreatedPost;

@@ -11,6 +11,8 @@ use client::ResetOutcome;
 use clock::Duration;
 use clock::Instant;
 use clock::Rand;
+use judge::Verdict;
+use machine::ClientState;
 use settings::Settings;
 use tables::Changed;
 use tables::Outcome;
@@ -75,19 +77,57 @@ impl Post {
         }
     }
 
+    // A poll's client is made of the post's own and of what the poll changes, so that no more than that is handed about.
     pub fn poll(self, step: u32, buf: &mut [u8]) -> PolledPost
         ensures { λ r. ⌜ (r ≡ polledPost self step (now (buf .entry))) × (now (buf .exit) ≡ bufferOf self step (now (buf .entry))) ⌝ }
     {
         let now = self.moment_after(step);
-        let held = self.client;
-        let polled = held.poll(self.tables, self.rand, now, buf);
-        let client = polled.client;
-        let tables = polled.tables;
-        let rand = polled.rand;
-        let outcome = polled.outcome;
+        if !self.client.is_whole_with(self.tables) {
+            let client = self.client;
+            let tables = self.tables;
+            let rand = self.rand;
+            return PolledPost {
+                post: Post {
+                    client,
+                    tables,
+                    rand,
+                    now,
+                },
+                outcome: PollOutcome::Refused(9),
+            };
+        }
+        let made = self.client.made(self.rand, now, buf);
+        if made.drops {
+            let polled = self.client.after(self.tables, made);
+            let client = polled.client;
+            let tables = polled.tables;
+            let rand = polled.rand;
+            let outcome = polled.outcome;
+            return PolledPost {
+                post: Post {
+                    client,
+                    tables,
+                    rand,
+                    now,
+                },
+                outcome,
+            };
+        }
+        let settings = self.client.settings;
+        let state = made.state;
+        let lease = self.client.lease;
+        let tables = self.tables;
+        let rand = made.rand;
+        let outcome = made.outcome;
         PolledPost {
             post: Post {
-                client,
+                client: Client {
+                    settings,
+                    ignore_naks: self.client.ignore_naks,
+                    state,
+                    lease,
+                    transaction_id: made.id,
+                },
                 tables,
                 rand,
                 now,
@@ -96,24 +136,30 @@ impl Post {
         }
     }
 
+    // Each verdict makes a post of its own, so that client and tables are copied but once.
     pub fn process(self, step: u32, source: u32, reply: &[u8]) -> RepliedPost
         ensures { λ r. ⌜ r ≡ repliedPost self step source (now (reply .entry)) ⌝ }
     {
         let now = self.moment_after(step);
-        let held = self.client;
-        let processed = held.process(self.tables, source, reply, now);
-        let client = processed.client;
-        let tables = processed.tables;
-        let rand = self.rand;
-        let outcome = processed.outcome;
-        RepliedPost {
-            post: Post {
-                client,
-                tables,
-                rand,
-                now,
-            },
-            outcome,
+        if !self.client.is_whole_with(self.tables) {
+            return self.unmoved(now, ReplyOutcome::Refused(9));
+        }
+        let verdict = self.client.recipient().judge(source, reply);
+        match verdict {
+            Verdict::Offer(offer) => {
+                let server = offer.server;
+                let state = ClientState::requesting(server, offer.address, now);
+                return self.moved_to(now, state);
+            }
+            Verdict::Ack(ack) => {
+                return self.acked(now, reply, ack);
+            }
+            Verdict::Nak => {
+                return self.cleared(now);
+            }
+            Verdict::PassedOver(number) => {
+                return self.unmoved(now, ReplyOutcome::PassedOver(number));
+            }
         }
     }
 

@@ -1,5 +1,5 @@
 -- Settings whose counts are within their limits, and those that nothing refuses: what measuring a message says. Assumes nothing.
-use Prim.Native.Nat.{ℕ, _-_, _≤_}
+use Prim.Native.Nat.{ℕ, _+_, _-_, _≤_}
 use mathlib.Core.Path.{_≡_, refl, sym, ap, _∙_}
 use mathlib.Core.Bool.{Bool, true, false, not}
 use mathlib.Core.List.{List, [], _∷_}
@@ -9,11 +9,12 @@ use lib.Dec.{leb, ltb}
 use borrow.Author.Tests.{leb-true, ltb-false, le-leb, le-ltb, not-false}
 use Rattle.clock.specs.Choice.{if_then_else_}
 use Rattle.clock.proofs.Choices.{if-true, if-false, if-cases}
-use Rattle.octets.specs.Items.{wholeItems}
+use Rattle.octets.specs.Items.{wholeItems, wholeFrom}
 use Rattle.octets.specs.declared.number.MaybeNumber.{MaybeNumber}
 use Rattle.octets.specs.declared.number.MaybeNumber.the-variants.{None, Some}
-use Rattle.message.specs.Messages.{message}
+use Rattle.message.specs.Messages.{message, nameOption, addressOption, sizeOption, optionIf}
 use Rattle.message.specs.Written.{nameLimit, extraLimit, measured, written, bufferAfter, listFits}
+use Rattle.message.proofs.Messages.{message-length}
 use Rattle.message.specs.declared.datagram.Route.{Route}
 use Rattle.message.specs.declared.message.Message.{Message}
 use Rattle.message.specs.declared.message.Answer.{Answer}
@@ -36,11 +37,7 @@ pub default-list : (s : Settings) → s .listed ≡ false → listOf s ≡ 1 ∷
 unfolding listOf
 default-list s t = sym (if-false _ t refl)
 
--- equal fields and lists measure and write equal messages
-pub measures : {m m′ : Message} {name name′ list list′ extra extra′ : List ℕ} {r : Answer} → m ≡ m′ → name ≡ name′ → list ≡ list′ → extra ≡ extra′
-    → r ≡ measured m name list extra → r ≡ measured m′ name′ list′ extra′
-measures a b c d e = rw (sym a) (rw (sym b) (rw (sym c) (rw (sym d) e)))
-
+-- equal lists write equal messages
 pub writes : (m : Message) (route : Route) (buffer : List ℕ) {name name′ list list′ extra extra′ buffer′ : List ℕ} {r : Answer} → name ≡ name′ → list ≡ list′ → extra ≡ extra′
     → (r ≡ written m name list extra (length buffer)) × (buffer′ ≡ bufferAfter route m name list extra buffer)
     → (r ≡ written m name′ list′ extra′ (length buffer)) × (buffer′ ≡ bufferAfter route m name′ list′ extra′ buffer)
@@ -67,11 +64,15 @@ module _ (s : Settings) (k : Counted s) where
       (if-false _ (ap (λ b. not (listFits b (length (listOf s)))) a ∙ ap not (list-fits s k))
       (if-false _ (le-ltb _ _ (take-within (s .«extra_len») 255 (s .extra) (k .extra))) refl))
 
-  pub refused-items : {n : ℕ} → measured (longest s) (nameOf s) (listOf s) (extraOf s) ≡ Refused n → not (wholeItems (extraOf s)) ≡ true
-  refused-items {n} e = if-cases (λ a. a ≡ Refused n → not (wholeItems (extraOf s)) ≡ true) (not (wholeItems (extraOf s))) (λ t f. t) (λ t f. cc) (measuring (longest s) refl ∙ e)
+-- the longest message from the counts
+pub longest-length : (s : Settings) → length (s .hardware) ≡ 6 → longestLength s ≡ 269 + length (nameOption (nameOf s)) + (2 + length (listOf s)) + length (extraOf s)
+unfolding addressOption sizeOption optionIf if_then_else_
+longest-length s h = omega (arith, message-length (longest s) (nameOf s) (listOf s) (extraOf s) h)
 
-  pub length-items : {n : ℕ} → measured (longest s) (nameOf s) (listOf s) (extraOf s) ≡ Length n → (not (wholeItems (extraOf s)) ≡ false) × (n ≡ longestLength s)
-  length-items {n} e = if-cases (λ a. a ≡ Length n → (not (wholeItems (extraOf s)) ≡ false) × (n ≡ longestLength s)) (not (wholeItems (extraOf s))) (λ t f. (cc, cc)) (λ t f. (t, cc)) (measuring (longest s) refl ∙ e)
+-- an empty list is whole items
+pub none-whole : (n : ℕ) (xs : List ℕ) → n ≡ 0 → wholeItems (take n xs) ≡ true
+unfolding wholeFrom
+none-whole n xs e = rw e refl
 
 -- Settings that nothing refuses: counts within their limits, extra options whole, room for the longest message.
 pub record Unrefused (s : Settings) : Type 0 where

@@ -1,9 +1,11 @@
 // What a client is created with, and numbers 1 to 7, which refuse it.
 ghost use mathlib.Core.Path.{_≡_};
-ghost use Prim.Native.Nat.{_≤_, _-_};
-ghost use Rattle.settings.specs.Settings.{noSettings, isEthernet, messageOf, longest, maximumOf, nameOf, listOf, extraOf, overCap, Counted, refusalOf, listsRefusal, sizeRefusal};
+ghost use Prim.Native.Nat.{_+_, _≤_, _-_};
+ghost use Rattle.settings.specs.Settings.{noSettings, isEthernet, messageOf, longestLength, maximumOf, nameOf, listOf, extraOf, overCap, Counted, refusalOf, listsRefusal, sizeRefusal};
 ghost use lib.ListN.{length};
-ghost use Rattle.message.specs.Written.{measured, written, bufferAfter, listFits};
+ghost use Rattle.octets.specs.Items.{wholeItems};
+ghost use Rattle.message.specs.Messages.{nameOption};
+ghost use Rattle.message.specs.Written.{written, bufferAfter, listFits};
 use clock::Duration;
 use clock::MaybeDuration;
 use message::Answer;
@@ -13,7 +15,7 @@ use message::message::EXTRA_LIMIT;
 use message::message::LIST_LIMIT;
 use message::message::NAME_LIMIT;
 use octets::MaybeNumber;
-use octets::run::up_to;
+use octets::span::up_to;
 
 pub enum Medium {
     Ethernet,
@@ -130,18 +132,28 @@ impl Settings {
         requires { ⌜ Counted self ⌝ }
         ensures { λ r. ⌜ r ≡ sizeRefusal self ⌝ }
     {
-        match self.longest_len() {
-            Answer::Refused(_) => MaybeNumber::Some(5),
-            Answer::Length(n) => {
-                if self.is_over_cap() {
-                    return MaybeNumber::Some(6);
-                }
-                if ((self.mtu - HEADERS) as usize) < n {
-                    return MaybeNumber::Some(7);
-                }
-                MaybeNumber::None
-            }
+        if !self.has_whole_extra() {
+            return MaybeNumber::Some(5);
         }
+        if self.is_over_cap() {
+            return MaybeNumber::Some(6);
+        }
+        if ((self.mtu - HEADERS) as usize) < self.longest_len() {
+            return MaybeNumber::Some(7);
+        }
+        MaybeNumber::None
+    }
+
+    // Whether the extra options are whole items; they are not read where there are none.
+    fn has_whole_extra(self) -> bool
+        ensures { λ r. ⌜ r ≡ wholeItems (extraOf self) ⌝ }
+    {
+        if self.extra_len == 0 {
+            return true;
+        }
+        let extra = self.extra;
+        let n = self.extra_len;
+        octets::item::whole_items(up_to(&extra, n))
     }
 
     // Whether there is a maximum that no duration reaches.
@@ -154,22 +166,33 @@ impl Settings {
         false
     }
 
-    // The length of the longest message, a Request in Requesting.
-    fn longest_len(self) -> Answer
-        ensures { λ r. ⌜ r ≡ measured (longest self) (nameOf self) (listOf self) (extraOf self) ⌝ }
+    // The length of the longest message, a Request in Requesting: 269 octets, and what differs from client to client.
+    fn longest_len(self) -> usize
+        requires { ⌜ Counted self ⌝ }
+        ensures { λ r. ⌜ r ≡ longestLength self ⌝ }
     {
-        let m = self.message(REQUEST, 0, 0, MaybeNumber::Some(0), MaybeNumber::Some(0));
-        let name = self.name;
-        let n = self.name_len;
-        let extra = self.extra;
-        let e = self.extra_len;
-        if self.listed {
-            let list = self.list;
-            let k = self.list_len;
-            return message::message_len(m, up_to(&name, n), up_to(&list, k), up_to(&extra, e));
+        269 + self.named_len() + self.asked_len() + self.extra_len
+    }
+
+    // Of these, the octets of option 12, and of option 55.
+    fn named_len(self) -> usize
+        requires { ⌜ Counted self ⌝ }
+        ensures { λ r. ⌜ (r ≡ length (nameOption (nameOf self))) × (r ≤ 65) ⌝ }
+    {
+        if self.name_len == 0 {
+            return 0;
         }
-        let list = DEFAULT_PARAMETER_REQUEST_LIST;
-        message::message_len(m, up_to(&name, n), &list, up_to(&extra, e))
+        self.name_len + 2
+    }
+
+    fn asked_len(self) -> usize
+        requires { ⌜ Counted self ⌝ }
+        ensures { λ r. ⌜ (r ≡ 2 + length (listOf self)) × (r ≤ 66) ⌝ }
+    {
+        if self.listed {
+            return self.list_len + 2;
+        }
+        5
     }
 
     // Writes a message of a client with these settings as a datagram at the start of buf, or refuses by 3, 4, 5 or 8 and

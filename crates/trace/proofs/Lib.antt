@@ -4,4 +4,6 @@ pub mod Numbers
 pub mod Forms
 pub mod Records
 pub mod Texts
+pub mod Writers
+pub mod Written
 pub mod RoundTrips

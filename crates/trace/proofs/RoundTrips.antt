@@ -1,29 +1,32 @@
 -- A record that is written along a form is read along it: every value, in order. Assumes nothing.
-use Prim.Native.Nat.{ℕ, suc, _+_, _*_, _/_, _%_, _≤_, _<_}
+use Prim.Native.Nat.{ℕ, suc, _+_, _-_, _*_, _/_, _%_, _≤_, _<_}
 use mathlib.Core.Bool.{Bool, true, false, true≢false}
 use mathlib.Core.Path.{_≡_, refl, sym, ap, _∙_}
 use mathlib.Core.List.{List, [], _∷_, _++_, append-assoc, append-nil}
 use native.Mathlib.Omega.{arith}
-use lib.ListN.{length, length-append}
-use lib.Seq.{drop-at}
+use lib.ListN.{length, take, drop, getD, length-append, length-drop}
+use lib.Seq.{drop-at, length-take-le, getD-take, getD-drop}
 use lib.Dec.{eqb, ltb}
 use borrow.Author.Tests.{le-leb, eq-eqb, ne-eqb, ltb-false}
 use Rattle.clock.specs.Choice.{if_then_else_}
 use Rattle.clock.proofs.Choices.{if-true}
+use Rattle.octets.specs.declared.number.MaybeNumber.the-variants.{Some}
 use Rattle.octets.proofs.Words.{joined32}
 use Rattle.trace.specs.Lines.{startsWith}
-use Rattle.trace.specs.Digits.{digitOf}
+use Rattle.trace.specs.Digits.{digitOf, octetAt}
 use Rattle.trace.specs.Numbers.{address}
 use Rattle.trace.specs.Forms.{charA, charB, charC, charH, charQ, charW, charX, Part, letter, gap, partsOf, limitOf, numberOf, ofNumber, octetsTaken, gapTaken, letterTaken, taken}
 use Rattle.trace.specs.Records.{mostValues, fitting, walk, recordOf}
-use Rattle.trace.specs.Texts.{decimalText, addressText, octetsText, Field, number, octets, fieldText, recordText, fieldValues, recordValues, Fills, decimals, addresses, bytes, Filled, apart}
+use Rattle.trace.specs.Texts.{decimalText, addressText, octetsText, Field, number, octets, fieldText, recordText, fieldValues, recordValues, Fills, decimals, addresses, bytes, Filled, AllOctets, apart}
+use Rattle.trace.specs.Written.{Wrote, width, fieldOf, fieldsOf, lineOf, Given, given-none, given-letter, given-number, given-octets, Found, found-none, found-letter, found-number, found-octets, ReadBack}
 use Rattle.trace.specs.declared.gap.Limit.{Limit}
 use Rattle.trace.specs.declared.gap.Limit.the-variants.{Unknown, Most}
 use Rattle.trace.specs.declared.gap.Taken.{Taken}
 use Rattle.trace.specs.declared.gap.Taken.the-variants.{Letter, Value, Octets}
 use Rattle.trace.proofs.Forms.{number-by}
 use Rattle.trace.proofs.Records.{after, walk-step}
-use Rattle.trace.proofs.Texts.{NoDigit, read-decimal, read-address, read-pairs, octets-length}
+use Rattle.trace.proofs.Texts.{NoDigit, read-decimal, read-address, read-pairs, octets-length, read-octet}
+use Rattle.trace.proofs.Writers.{held}
 
 -- ---- the limit of a gap
 abbrev mostOf : Limit → ℕ
@@ -143,3 +146,112 @@ pub read-written : (form : List ℕ) (fields : List Field) → apart (partsOf fo
 read-written form fields a f h =
     let size : 0 + length (recordText (partsOf form) fields) ≡ length (recordText (partsOf form) fields) = omega arith in
     walk-text (partsOf form) fields [] 0 a f (omega arith) ∙ ap (fitting (recordValues 0 (partsOf form) fields)) size
+
+-- ---- lines as write_record writes them: one whose fields fit is read as those fields
+pub read-fields : (form values source : List ℕ) → apart (partsOf form) ≡ true → Filled (partsOf form) (fieldsOf (partsOf form) values source)
+    → length (recordValues 0 (partsOf form) (fieldsOf (partsOf form) values source)) ≤ mostValues
+    → recordOf form (lineOf form values source) ≡ fitting (recordValues 0 (partsOf form) (fieldsOf (partsOf form) values source)) (length (lineOf form values source))
+unfolding lineOf
+read-fields form values source a f h = read-written form (fieldsOf (partsOf form) values source) a f h
+
+-- ---- values that fill their gaps: the fields that they are
+number-not-x : {kind v : ℕ} → Fills kind (number v) → kind ≡ charX → ⊥
+number-not-x {kind} (decimals {most = most} e h) x = limit-not-x kind most e x
+number-not-x (addresses h) x = omega arith
+
+number-field : (kind v : ℕ) (values source : List ℕ) → Fills kind (number v) → (width kind ≡ 1) × (fieldOf kind (v ∷ values) source ≡ number v)
+unfolding width fieldOf if_then_else_
+number-field kind v values source f = (simp (ne-eqb kind charX (number-not-x f)), simp (ne-eqb kind charX (number-not-x f)))
+
+at-hand : (place count : ℕ) (source : List ℕ) → place + count ≤ length source → length (take count (drop place source)) ≡ count
+at-hand place count source h = length-take-le count (drop place source) (simp length-drop (omega arith))
+
+octets-there : (place count i : ℕ) (source before rest : List ℕ) → place + count ≤ length source → AllOctets (take count (drop place source)) → i < count
+    → octetAt (length before + 2 * i) (before ++ (octetsText (take count (drop place source)) ++ rest)) ≡ Some (getD source (place + i) 0)
+octets-there place count i source before rest h o k =
+    read-octet before (take count (drop place source)) rest i o (omega (arith, at-hand place count source h)) ∙ ap Some (getD-take count (drop place source) i 0 k ∙ getD-drop place source i 0)
+
+module _ {source : List ℕ} where
+  abbrev givenFields : {parts : List Part} {values : List ℕ} → Given source parts values → List Field
+  givenFields given-none = []
+  givenFields (given-letter g) = givenFields g
+  givenFields (given-number {v = v} f g) = number v ∷ givenFields g
+  givenFields (given-octets {place = place} {count = count} h f g) = octets (take count (drop place source)) ∷ givenFields g
+
+  given-fields : {parts : List Part} {values : List ℕ} (g : Given source parts values) → fieldsOf parts values source ≡ givenFields g
+  unfolding fieldsOf width fieldOf if_then_else_
+  given-fields given-none = refl
+  given-fields (given-letter g) = given-fields g
+  given-fields (given-number {kind} {v} {parts} {values} f g) =
+      let e = number-field kind v values source f in
+      (λ k. e .1 k ∷ fieldsOf parts (drop (e .0 k) (v ∷ values)) source) ∙ ap (λ (fields : List Field). number v ∷ fields) (given-fields g)
+  given-fields (given-octets {place} {count} h f g) = ap (λ (fields : List Field). octets (take count (drop place source)) ∷ fields) (given-fields g)
+
+  given-filled : {parts : List Part} {values : List ℕ} (g : Given source parts values) → Filled parts (givenFields g)
+  unfolding Filled
+  given-filled given-none = tt
+  given-filled (given-letter g) = given-filled g
+  given-filled (given-number f g) = (f, given-filled g)
+  given-filled (given-octets h f g) = (f, given-filled g)
+
+  given-length : {parts : List Part} {values : List ℕ} (g : Given source parts values) (at : ℕ) → length (recordValues at parts (givenFields g)) ≡ length values
+  unfolding recordValues
+  given-length given-none at = refl
+  given-length (given-letter g) at = given-length g (at + 1)
+  given-length (given-number f g) at = ap suc (given-length g _)
+  given-length (given-octets h f g) at = ap (λ (n : ℕ). suc (suc n)) (given-length g _)
+
+  -- where their texts stand in the line
+  given-found : {parts : List Part} {values : List ℕ} (g : Given source parts values) (line before : List ℕ) (at : ℕ) → at ≡ length before → line ≡ before ++ recordText parts (givenFields g)
+      → Found source line parts values (recordValues at parts (givenFields g))
+  unfolding recordValues recordText
+  given-found given-none line before at p e = found-none
+  given-found (given-letter {s} {parts} g) line before at p e =
+      found-letter (given-found g line (before ++ (s ∷ [])) (at + 1) (simp length-append (omega arith)) (e ∙ sym (append-assoc before (s ∷ []) (recordText parts (givenFields g)))))
+  given-found (given-number {kind} {v} {parts} f g) line before at p e =
+      let text = fieldText kind (number v) in
+      found-number (number-not-x f) (given-found g line (before ++ text) (at + length text) (simp length-append (omega arith)) (e ∙ sym (append-assoc before text (recordText parts (givenFields g)))))
+  given-found (given-octets {place} {count} {parts} {values} h (bytes o b) g) line before at p e =
+      let text = octetsText (take count (drop place source)) in
+      let rest = recordText parts (givenFields g) in
+      let found = recordValues (at + length text) parts (givenFields g) in
+      let more : Found source line parts values found = given-found g line (before ++ text) (at + length text) (simp length-append (omega arith)) (e ∙ sym (append-assoc before text rest)) in
+      rw (at-hand place count source h) (found-octets (λ i k. (λ j. octetAt (p j + 2 * i) (e j)) ∙ octets-there place count i source before rest h o k) more)
+
+-- What is written of values that fill their gaps is read again.
+pub read-line : (form : List ℕ) {values source : List ℕ} → apart (partsOf form) ≡ true → Given source (partsOf form) values → length values ≤ mostValues
+    → ReadBack form values source (lineOf form values source)
+unfolding lineOf
+read-line form {values} {source} a g h =
+    let fields = givenFields g in
+    let text = recordText (partsOf form) fields in
+    rw (given-fields g)
+    record {
+      found = recordValues 0 (partsOf form) fields;
+      fits = read-written form fields a (given-filled g) (omega (arith, given-length g 0));
+      same = given-found g text [] 0 refl refl;
+    }
+
+-- Along a form without octets the very values come back.
+abbrev pub NoOctets : List Part → Type 0
+NoOctets [] = Unit {0}
+NoOctets (letter s ∷ parts) = NoOctets parts
+NoOctets (gap kind ∷ parts) = (kind ≡ charX → ⊥) × NoOctets parts
+
+same-numbers : {source line values found : List ℕ} {parts : List Part} → Found source line parts values found → NoOctets parts → found ≡ values
+same-numbers found-none n = refl
+same-numbers (found-letter f) n = same-numbers f n
+same-numbers (found-number {v = v} x f) n = ap (λ (l : List ℕ). v ∷ l) (same-numbers f (n .1))
+same-numbers (found-octets there f) n = absurd (n .0 refl)
+
+pub read-numbers : (form : List ℕ) {values source : List ℕ} → apart (partsOf form) ≡ true → Given source (partsOf form) values → length values ≤ mostValues → NoOctets (partsOf form)
+    → recordOf form (lineOf form values source) ≡ fitting values (length (lineOf form values source))
+read-numbers form {values} {source} a g h n =
+    let back = read-line form a g h in
+    back .fits ∙ ap (λ (l : List ℕ). fitting l (length (lineOf form values source))) (same-numbers (back .same) n)
+
+-- What write_record leaves in a buffer that has room for it is read likewise.
+pub read-buffer : (form : List ℕ) {values source before after : List ℕ} {place next : ℕ} → apart (partsOf form) ≡ true → Given source (partsOf form) values → length values ≤ mostValues
+    → Wrote place (lineOf form values source) before next after → place + length (lineOf form values source) ≤ length before
+    → ReadBack form values source (take (next - place) (drop place after))
+read-buffer form a g h w room = rw (held w room .line) (read-line form a g h)

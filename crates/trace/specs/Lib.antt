@@ -4,3 +4,4 @@ pub mod Numbers
 pub mod Forms
 pub mod Records
 pub mod Texts
+pub mod Written

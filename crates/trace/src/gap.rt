@@ -25,7 +25,7 @@ pub(crate) enum Taken {
 }
 
 // A gap begins with this character.
-const PERCENT: u8 = 37;
+pub(crate) const PERCENT: u8 = 37;
 
 // At most so many octets stand in a gap.
 const MOST_OCTETS: usize = 65535;

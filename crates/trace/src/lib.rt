@@ -9,6 +9,7 @@ mod gap;
 mod line;
 mod number;
 mod record;
+mod write;
 
 pub use digit::octet_at;
 pub use line::after_line;
@@ -17,3 +18,4 @@ pub use line::line_at;
 pub use line::line_len;
 pub use record::Record;
 pub use record::read_record;
+pub use write::write_record;

@@ -14,7 +14,7 @@ pub(crate) enum Number {
 }
 
 // The dot between the numbers of an address.
-const DOT: u8 = 46;
+pub(crate) const DOT: u8 = 46;
 
 // Whether the digits that a text begins with write a number: there is one, and no zero leads others.
 fn is_proper(text: &[u8]) -> bool

@@ -7,13 +7,13 @@ use native.Mathlib.Omega.{arith}
 use native.Mathlib.Decide.{decLe}
 use lib.Seq.{take-append-add, length-take-le}
 use native.Mathlib.Nat.{add-zero}
-use lib.ListN.{length, getD, take, drop, length-append, length-take, length-drop}
+use lib.ListN.{length, getD, take, drop, length-append, length-take, length-drop, take-append-drop}
 use borrow.Author.Tests.{le-leb, lt-leb, eq-eqb, ne-eqb}
 use Rattle.clock.specs.Choice.{if_then_else_}
 use Rattle.octets.specs.Runs.{over, placed, placedLength}
 use Rattle.octets.specs.Items.{option, optionBytes, wholeFrom, wholeItems}
-use Rattle.octets.proofs.Runs.{placed-whole, over-front, over-length}
-use Rattle.octets.proofs.Items.{bytes-of, items-append, items-option}
+use Rattle.octets.proofs.Runs.{placed-whole, placed-not, placed-none, over-front, over-length}
+use Rattle.octets.proofs.Items.{bytes-of, bytes-long, items-append, items-option}
 use Rattle.wire.specs.Options.{DhcpOption, optionsOf}
 use Rattle.wire.specs.Stored.{pushed, allPushed, placeFrom, withOption, used, wholeStore, emptyStore, storeOf}
 use Rattle.wire.specs.declared.store.Store.{Store}
@@ -44,6 +44,44 @@ push-written store kind body r ys size h er ey =
     let n : r ≡ length (option kind body) = er ∙ rw b (p .0) in
     let l : ys ≡ used store ++ over (option kind body) (drop (store .len) (store .bytes)) = ey ∙ ap (λ (x : List ℕ). used store ++ x) (rw b (p .1)) in
     (omega arith, (λ k. record { bytes = l k; len = store .len + n k }) ∙ push-kept store kind body h)
+
+with-size : (store : Store) (kind : ℕ) (body : List ℕ) → length (store .bytes) ≡ 256 → store .len + (2 + length body) ≤ 256 → length (withOption store kind body .bytes) ≡ 256
+with-size store kind body size h = simp (length-append, length-take, over-length (option kind body) (drop (store .len) (store .bytes)) room, length-drop) (omega (arith, size))
+  where
+    room : length (option kind body) ≤ length (drop (store .len) (store .bytes))
+    room = simp length-drop (omega (arith, size))
+
+-- the same of an option that may not fit, which leaves the octets as they were
+pub record Put (store : Store) (kind : ℕ) (body : List ℕ) (r : ℕ) (ys : List ℕ) : Type 0 where
+  pub within : store .len + r ≤ 256
+  pub size : length ys ≡ 256
+  pub kept : _≡_ {A = Store} (record { bytes = ys; len = store .len + r }) (pushed store kind body)
+
+not-put : (store : Store) (kind : ℕ) (body : List ℕ) (r : ℕ) (ys : List ℕ) → length (store .bytes) ≡ 256 → store .len ≤ 256 → 256 < store .len + (2 + length body)
+    → r ≡ 0 → ys ≡ store .bytes → Put store kind body r ys
+not-put store kind body r ys size h over er ey =
+    let n : store .len + r ≡ store .len = omega arith in
+    record { within = omega arith; size = ap length ey ∙ size; kept = (λ k. record { bytes = ey k; len = n k }) ∙ push-passed store kind body over }
+
+pub put-in : (store : Store) (kind : ℕ) (body : List ℕ) (r : ℕ) (ys : List ℕ) → length (store .bytes) ≡ 256 → store .len ≤ 256
+    → r ≡ placedLength (optionBytes kind body) (drop (store .len) (store .bytes))
+    → ys ≡ take (store .len) (store .bytes) ++ placed (optionBytes kind body) (drop (store .len) (store .bytes))
+    → Put store kind body r ys
+put-in store kind body r ys size h er ey = elim (decLe (store .len + (2 + length body)) 256) [
+  | yes f ↦
+      let w = push-written store kind body r ys size f er ey in
+      record { within = omega (arith, w .0); size = ap (λ (s : Store). length (s .bytes)) (w .1 ∙ sym (push-kept store kind body f)) ∙ with-size store kind body size f; kept = w .1 }
+  | no f ↦ elim (decLe (length body) 255) [
+    | yes g ↦
+        let b = bytes-of kind body g in
+        let p = placed-not (option kind body) (drop (store .len) (store .bytes)) (simp length-drop (omega arith)) in
+        not-put store kind body r ys size h (omega arith) (er ∙ rw b (p .0)) (ey ∙ ap (λ (x : List ℕ). take (store .len) (store .bytes) ++ x) (rw b (p .1)) ∙ take-append-drop (store .len) (store .bytes))
+    | no g ↦
+        let b = bytes-long kind body (omega arith) in
+        let p = placed-none (drop (store .len) (store .bytes)) in
+        not-put store kind body r ys size h (omega arith) (er ∙ rw b (p .0)) (ey ∙ ap (λ (x : List ℕ). take (store .len) (store .bytes) ++ x) (rw b (p .1)) ∙ take-append-drop (store .len) (store .bytes))
+  ]
+]
 
 -- one option more of a list, and the end of it
 pub all-more : (store : Store) (o : DhcpOption) (os : List DhcpOption) → allPushed store (o ∷ os) ≡ allPushed (pushed store (o .code) (o .body)) os
@@ -120,13 +158,10 @@ used-with store kind body h =
 
 with-sound : (store : Store) (kind : ℕ) (body : List ℕ) → Sound store → store .len + (2 + length body) ≤ 256 → Sound (withOption store kind body)
 with-sound store kind body s h = record {
-  size = simp (length-append, length-take, over-length (option kind body) (drop (store .len) (store .bytes)) room, length-drop) (omega (arith, s .size));
+  size = with-size store kind body (s .size) h;
   whole = whole-within (withOption store kind body) (omega arith) ∙ ap wholeItems (used-with store kind body (omega (arith, s .size)))
       ∙ items-append (used store) (option kind body) (sym (whole-within store (omega arith)) ∙ s .whole) ∙ items-option kind body;
 }
-  where
-    room : length (option kind body) ≤ length (drop (store .len) (store .bytes))
-    room = simp length-drop (omega (arith, s .size))
 
 -- a push keeps a store sound, and so what a reply leaves in it is whole
 pub push-sound : (store : Store) (kind : ℕ) (body : List ℕ) → Sound store → Sound (pushed store kind body)

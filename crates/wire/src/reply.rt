@@ -44,11 +44,11 @@ pub fn check_header(reply: &[u8]) -> Checked
         return Checked::PassedOver(20);
     }
     let start = REPLY_START;
-    if !octets::run::same(&reply[..3], &start) {
+    if !octets::span::same(&reply[..3], &start) {
         return Checked::PassedOver(21);
     }
     let magic = octets::item::MAGIC_NUMBER;
-    if !octets::run::same(&reply[236..240], &magic) {
+    if !octets::span::same(&reply[236..240], &magic) {
         return Checked::PassedOver(21);
     }
     Checked::Passes
@@ -61,7 +61,7 @@ pub fn is_addressed_to(reply: &[u8], hardware: [u8; 6]) -> bool
     if reply.len() < 34 {
         return false;
     }
-    octets::run::same(&reply[28..34], &hardware)
+    octets::span::same(&reply[28..34], &hardware)
 }
 
 // The transaction id, none where the reply ends before it does.

@@ -51,36 +51,37 @@ impl Store {
             return self;
         }
         let mut bytes = self.bytes;
-        let written = octets::run::put_option_at(&mut bytes, at, kind, body);
+        let written = octets::span::put_option_at(&mut bytes, at, kind, body);
         Store {
             bytes,
             len: at + written,
         }
     }
 
-    // All options of a reply, in order.
+    // All options of a reply, in order, written in place.
     pub fn of_reply(reply: &[u8]) -> Store
         ensures { λ r. ⌜ r ≡ storeOf (now (reply .entry)) ⌝ }
     {
-        let mut store = Store::new();
+        let mut bytes = [0u8; 256];
+        let mut used: usize = 0;
         let mut at = OPTIONS;
         while at < reply.len() {
             match read_item(reply, at) {
                 Item::Whole { code, len } => {
                     let start = at + 2;
                     let end = start + len;
-                    store = store.push(code, &reply[start..end]);
+                    used += octets::span::put_option_at(&mut bytes, used, code, &reply[start..end]);
                     at = end;
                 }
                 Item::Pad => {
                     at += 1;
                 }
                 Item::End => {
-                    return store;
+                    return Store { bytes, len: used };
                 }
             }
         }
-        store
+        Store { bytes, len: used }
     }
 
     // Whether the store is whole items.
@@ -118,7 +119,7 @@ impl Store {
         let b = other.bytes;
         let n = at_most(self.len, CAPACITY);
         let m = at_most(other.len, CAPACITY);
-        octets::run::same(&a[..n], &b[..m])
+        octets::span::same(&a[..n], &b[..m])
     }
 }
 

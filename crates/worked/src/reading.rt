@@ -3,7 +3,7 @@ use crate::line;
 use crate::number;
 use crate::test;
 use octets::address::x_is_unicast;
-use octets::run::up_to;
+use octets::span::up_to;
 use wire::Checked;
 use wire::Got;
 use wire::Length;
@@ -53,8 +53,8 @@ fn reply_with(options: &[u8]) -> [u8; 600] {
     reply[7] = 1;
     reply[16] = 10;
     reply[19] = 7;
-    octets::run::put_bytes_at(&mut reply, 236, &[99, 130, 83, 99]);
-    octets::run::put_bytes_at(&mut reply, 240, options);
+    octets::span::put_bytes_at(&mut reply, 236, &[99, 130, 83, 99]);
+    octets::span::put_bytes_at(&mut reply, 240, options);
     reply
 }
 
@@ -295,7 +295,7 @@ fn store() {
             240,
         ],
     );
-    octets::run::put_bytes_at(&mut long, 497, &[101, 1, 7, 255]);
+    octets::span::put_bytes_at(&mut long, 497, &[101, 1, 7, 255]);
     let kept = Store::of_reply(&long);
     line(b"octets in use without 100", kept.len as u64);
     got(b"53 in the store", kept.get(53));
@@ -326,7 +326,7 @@ fn full() {
             239,
         ],
     );
-    octets::run::put_bytes_at(&mut long, 496, &[101, 1, 7, 255]);
+    octets::span::put_bytes_at(&mut long, 496, &[101, 1, 7, 255]);
     let kept = Store::of_reply(&long);
     line(b"octets in use with 100", kept.len as u64);
     got(b"100 of 239 octets in the store", kept.get(100));

@@ -8,7 +8,7 @@ use message::Route;
 use message::message_len;
 use message::write_message;
 use octets::MaybeNumber;
-use octets::run::up_to;
+use octets::span::up_to;
 
 pub fn examples() {
     words();

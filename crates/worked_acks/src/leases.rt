@@ -5,8 +5,8 @@ use crate::made::maskless;
 use crate::made::told;
 use crate::print::print;
 use crate::print::print_lease;
-use octets::run::put_bytes_at;
-use octets::run::up_to;
+use octets::span::put_bytes_at;
+use octets::span::up_to;
 
 pub fn examples() {
     masks();

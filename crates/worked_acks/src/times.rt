@@ -4,8 +4,8 @@ use crate::made::ack;
 use crate::made::told;
 use crate::print::print;
 use crate::print::print_times;
-use octets::run::put_bytes_at;
-use octets::run::put_option_at;
+use octets::span::put_bytes_at;
+use octets::span::put_option_at;
 use octets::word::split4;
 
 pub fn examples() {

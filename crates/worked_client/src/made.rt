@@ -8,7 +8,7 @@ use machine::DhcpServerInfo;
 use machine::DiscoverState;
 use machine::RequestState;
 use machine::Tries;
-use octets::run::put_bytes_at;
+use octets::span::put_bytes_at;
 use settings::Medium;
 use settings::Settings;
 use tables::Tables;

@@ -6,7 +6,7 @@ use machine::DhcpServerInfo;
 use machine::RenewState;
 use machine::RequestState;
 use machine::Tries;
-use octets::run::put_bytes_at;
+use octets::span::put_bytes_at;
 use octets::word::write_u32;
 use settings::Medium;
 use settings::Settings;

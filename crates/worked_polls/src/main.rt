@@ -11,7 +11,7 @@ mod print;
 
 use numbers::first;
 use numbers::numbers_in;
-use octets::run::up_to;
+use octets::span::up_to;
 use print::print;
 use print::show;
 use run::Post;

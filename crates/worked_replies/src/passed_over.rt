@@ -15,7 +15,7 @@ use crate::same::same_client;
 use crate::same::same_tables;
 use client::Client;
 use clock::Instant;
-use octets::run::up_to;
+use octets::span::up_to;
 
 pub fn examples() {
     short();

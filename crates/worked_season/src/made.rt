@@ -2,7 +2,7 @@
 use clock::Duration;
 use clock::Instant;
 use clock::Rand;
-use octets::run::put_bytes_at;
+use octets::span::put_bytes_at;
 use run::CreatedPost;
 use run::Post;
 use settings::Medium;

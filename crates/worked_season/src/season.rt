@@ -16,7 +16,7 @@ use crate::tally::more;
 use client::PollAnswer;
 use client::PollOutcome;
 use client::ReplyOutcome;
-use octets::run::up_to;
+use octets::span::up_to;
 use run::Post;
 use std::num::wrapping_add_u32;
 use std::num::wrapping_add_u64;

@@ -1,6 +1,6 @@
 // The server: what it hears, and what it sends.
 use octets::MaybeNumber;
-use octets::run::put_bytes_at;
+use octets::span::put_bytes_at;
 use octets::word::write_u32;
 use wire::reply::message_type;
 use wire::reply::transaction_id;

@@ -1,4 +1,4 @@
-use Rattle.client.proofs.Sendings.{sent-nothing, sent-written, sent-short}
+use Rattle.client.proofs.Sendings.{made-unwritten, made-written, made-short}
 use borrow.Author.Needs.{needs}
 use Rattle.client.proofs.client.Client.send.Statement.{statement}
 use Rattle.client.proofs.client.Client.send.Tie as tie
@@ -9,11 +9,11 @@ drawn-requires c κs = search needs
 silent-requires : tie.Need-silent-requires
 silent-requires c κs = search needs
 
-settle-requires : tie.Need-settle-requires
-settle-requires c κs = search needs
+moved-requires : tie.Need-moved-requires
+moved-requires c κs = search needs
 
 returns : tie.Need-returns
-returns c = sent-nothing (c .before .before .before .before .before .args .self) (c .before .before .before .before .before .args .tables) (c .before .before .before .before .before .args .rand) (c .before .before .before .before .before .args .wake) (c .before .before .before .before .before .args .sending) _ (c .before .before .if1 .taken) (c .before .before .before .drawn .ensures) (c .before .silent .ensures) (c .settle .ensures)
+returns c = made-unwritten (c .before .before .before .before .before .args .self) (c .before .before .before .before .before .args .rand) (c .before .before .before .before .before .args .wake) (c .before .before .before .before .before .args .sending) _ (c .before .before .if1 .taken) (c .before .before .before .drawn .ensures) (c .before .silent .ensures) (c .moved .ensures)
 
 route-requires : tie.Need-route-requires
 route-requires c κs = search needs
@@ -27,26 +27,26 @@ enum-known-n c = search needs
 built-requires : tie.Need-built-requires
 built-requires c κs = search needs
 
-settle-requires-2 : tie.Need-settle-requires-2
-settle-requires-2 c κs = search needs
+moved-requires-2 : tie.Need-moved-requires-2
+moved-requires-2 c κs = search needs
 
 enum-told : tie.Need-enum-told
 enum-told c = search needs
 
-refused-requires : tie.Need-refused-requires
-refused-requires c κs = search needs
+unmoved-requires : tie.Need-unmoved-requires
+unmoved-requires c κs = search needs
 
 same-length : tie.Need-same-length
 same-length c = search needs
 
 returns-2 : tie.Need-returns-2
-returns-2 c = sent-written (c .before .before .before .before .before .before .before .before .before .before .before .before .before .args .self) (c .before .before .before .before .before .before .before .before .before .before .before .before .before .args .tables) (c .before .before .before .before .before .before .before .before .before .before .before .before .before .args .rand) (c .before .before .before .before .before .before .before .before .before .before .before .before .before .args .wake) (c .before .before .before .before .before .before .before .before .before .before .before .before .before .args .sending) (c .before .before .before .before .before .before .before .before .before .before .before .before .before .pre) _ (c .before .before .before .before .before .before .before .before .before .before .if1 .left) (c .before .before .before .before .before .before .before .before .before .before .before .drawn .ensures) (c .before .before .before .before .before .before .before .before .before .route .ensures) (c .before .before .before .before .before .before .before .write .ensures) (c .before .before .before .n .given .1) (c .before .built .ensures) (c .settle2 .ensures)
+returns-2 c = made-written (c .before .before .before .before .before .before .before .before .before .before .before .before .before .args .self) (c .before .before .before .before .before .before .before .before .before .before .before .before .before .args .rand) (c .before .before .before .before .before .before .before .before .before .before .before .before .before .args .wake) (c .before .before .before .before .before .before .before .before .before .before .before .before .before .args .sending) _ (c .before .before .before .before .before .before .before .before .before .before .if1 .left) (c .before .before .before .before .before .before .before .before .before .before .before .drawn .ensures) (c .before .before .before .before .before .before .before .before .before .route .ensures) (c .before .before .before .before .before .before .before .write .ensures) (c .before .before .before .n .given .1) (c .before .built .ensures) (c .moved2 .ensures)
 
 same-length-2 : tie.Need-same-length-2
 same-length-2 c = search needs
 
 returns-3 : tie.Need-returns-3
-returns-3 c = sent-short (c .before .before .before .before .before .before .before .before .before .before .before .args .self) (c .before .before .before .before .before .before .before .before .before .before .before .args .tables) (c .before .before .before .before .before .before .before .before .before .before .before .args .rand) (c .before .before .before .before .before .before .before .before .before .before .before .args .wake) (c .before .before .before .before .before .before .before .before .before .before .before .args .sending) (c .before .before .before .before .before .before .before .before .before .before .before .pre) _ (c .before .before .before .before .before .before .before .before .if1 .left) (c .before .before .before .before .before .before .before .before .before .drawn .ensures) (c .before .before .before .before .before .before .before .route .ensures) (c .before .before .before .before .before .write .ensures) (c .before .enum-told .given .1) (c .refused .ensures)
+returns-3 c = made-short (c .before .before .before .before .before .before .before .before .before .before .before .args .self) (c .before .before .before .before .before .before .before .before .before .before .before .args .rand) (c .before .before .before .before .before .before .before .before .before .before .before .args .wake) (c .before .before .before .before .before .before .before .before .before .before .before .args .sending) _ (c .before .before .before .before .before .before .before .before .if1 .left) (c .before .before .before .before .before .before .before .before .before .drawn .ensures) (c .before .before .before .before .before .before .before .route .ensures) (c .before .before .before .before .before .write .ensures) (c .before .enum-told .given .1) (c .unmoved .ensures)
 
 pub send-spec : {M : Type 1} → statement M
 send-spec =
@@ -54,15 +54,15 @@ send-spec =
     (tie.spec
     drawn-requires
     silent-requires
-    settle-requires
+    moved-requires
     returns
     route-requires
     write-requires
     enum-known-n
     built-requires
-    settle-requires-2
+    moved-requires-2
     enum-told
-    refused-requires
+    unmoved-requires
     same-length
     returns-2
     same-length-2

@@ -1,4 +1,6 @@
-use Rattle.run.proofs.Steps.{polls}
+use mathlib.Core.Path.{sym, ap, _∙_}
+use mathlib.Core.Bool.{not}
+use Rattle.run.proofs.Steps.{polls-broken, polls-dropping, polls-keeping}
 use borrow.Author.Needs.{needs}
 use Rattle.run.proofs.post.Post.poll.Statement.{statement}
 use Rattle.run.proofs.post.Post.poll.Tie as tie
@@ -6,14 +8,40 @@ use Rattle.run.proofs.post.Post.poll.Tie as tie
 moment-after-requires : tie.Need-moment-after-requires
 moment-after-requires c κs = search needs
 
-poll-requires : tie.Need-poll-requires
-poll-requires c κs = search needs
+is-whole-with-requires : tie.Need-is-whole-with-requires
+is-whole-with-requires c κs = search needs
+
+returns : tie.Need-returns
+returns c = polls-broken (c .before .before .before .before .before .before .before .args .self) (c .before .before .before .before .before .before .before .args .step) (c .before .before .before .before .before .moment-after .ensures) _ (ap not (sym (c .before .before .before .before .is-whole-with .ensures)) ∙ c .before .before .before .if1 .taken)
+
+made-requires : tie.Need-made-requires
+made-requires c κs = search needs
+
+after-requires : tie.Need-after-requires
+after-requires c κs = search needs
 
 same-length : tie.Need-same-length
 same-length c = search needs
 
-returns : tie.Need-returns
-returns c = polls (c .before .before .before .before .before .before .before .before .before .before .args .self) (c .before .before .before .before .before .before .before .before .before .before .args .step) (c .before .before .before .before .before .before .before .before .moment-after .ensures) _ (c .before .before .before .before .before .poll .ensures)
+returns-2 : tie.Need-returns-2
+returns-2 c = polls-dropping (c .before .before .before .before .before .before .before .before .before .before .before .before .before .args .self) (c .before .before .before .before .before .before .before .before .before .before .before .before .before .args .step) (c .before .before .before .before .before .before .before .before .before .before .before .moment-after .ensures) _ (ap not (sym (c .before .before .before .before .before .before .before .before .before .before .is-whole-with .ensures)) ∙ c .before .before .before .before .before .before .before .before .before .if1 .left) (c .before .before .before .before .before .before .before .made .ensures) (c .before .before .before .after .ensures)
+
+same-length-2 : tie.Need-same-length-2
+same-length-2 c = search needs
+
+returns-3 : tie.Need-returns-3
+returns-3 c = polls-keeping (c .before .before .before .before .before .before .before .before .before .before .before .before .before .args .self) (c .before .before .before .before .before .before .before .before .before .before .before .before .before .args .step) (c .before .before .before .before .before .before .before .before .before .before .before .moment-after .ensures) _ (ap not (sym (c .before .before .before .before .before .before .before .before .before .before .is-whole-with .ensures)) ∙ c .before .before .before .before .before .before .before .before .before .if1 .left) (c .before .before .before .before .before .before .before .made .ensures) (c .before .before .before .before .if2 .left)
 
 pub poll-spec : {M : Type 1} → statement M
-poll-spec = tie.close (tie.spec moment-after-requires poll-requires same-length returns)
+poll-spec =
+    tie.close
+    (tie.spec
+    moment-after-requires
+    is-whole-with-requires
+    returns
+    made-requires
+    after-requires
+    same-length
+    returns-2
+    same-length-2
+    returns-3)

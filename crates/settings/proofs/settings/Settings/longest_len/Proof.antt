@@ -1,78 +1,41 @@
+use Rattle.settings.proofs.Refusals.{longest-length}
+use Rattle.settings.specs.Settings.{extraOf}
+use lib.Seq.{length-take-le}
 use lib.ListN.{length}
-use mathlib.Core.Path.{_≡_, sym, _∙_}
-use Rattle.settings.proofs.Refusals.{measures, listed-list, default-list}
+use mathlib.Core.Path.{_≡_}
+use native.Mathlib.Omega.{arith}
 use borrow.Author.Needs.{needs}
 use Rattle.settings.proofs.settings.Settings.longest_len.Statement.{statement}
 use Rattle.settings.proofs.settings.Settings.longest_len.Tie as tie
 
+hardware-size : (c : tie.Start) → length (c .args .self .hardware) ≡ 6
+hardware-size c = search needs
+
 extra-size : (c : tie.Start) → length (c .args .self .extra) ≡ 255
 extra-size c = search needs
 
-message-requires : tie.Need-message-requires
-message-requires c κs = search needs
+named-len-requires : tie.Need-named-len-requires
+named-len-requires c κs = search needs
 
-slice-aggregate-up-to : tie.Need-slice-aggregate-up-to
-slice-aggregate-up-to c = search needs
+add-result : tie.Need-add-result
+add-result c = search needs
 
-up-to-requires : tie.Need-up-to-requires
-up-to-requires c κs = search needs
+asked-len-requires : tie.Need-asked-len-requires
+asked-len-requires c κs = search needs
 
-slice-aggregate-up-to-2 : tie.Need-slice-aggregate-up-to-2
-slice-aggregate-up-to-2 c = search needs
+add-result-2 : tie.Need-add-result-2
+add-result-2 c = search needs
 
-up-to-requires-2 : tie.Need-up-to-requires-2
-up-to-requires-2 c κs = search needs
-
-slice-aggregate-up-to-3 : tie.Need-slice-aggregate-up-to-3
-slice-aggregate-up-to-3 c = sym (extra-size (c .before .before .before .before .before .before .before .before .before .before))
-
-up-to-requires-3 : tie.Need-up-to-requires-3
-up-to-requires-3 c κs = search needs
-
-message-len-requires : tie.Need-message-len-requires
-message-len-requires c κs = search needs
+add-result-3 : tie.Need-add-result-3
+add-result-3 c = search needs
 
 returns : tie.Need-returns
-returns c = measures (c .before .before .before .before .before .before .before .before .before .before .before .message .ensures) (c .before .before .before .before .before .up-to .ensures) (c .before .before .before .up-to2 .ensures ∙ sym (listed-list (c .before .before .before .before .before .before .before .before .before .before .before .before .args .self) (c .before .before .before .before .before .before .before .before .if1 .taken))) (c .before .up-to3 .ensures) (c .message-len .ensures)
-
-slice-aggregate-up-to-4 : tie.Need-slice-aggregate-up-to-4
-slice-aggregate-up-to-4 c = search needs
-
-up-to-requires-4 : tie.Need-up-to-requires-4
-up-to-requires-4 c κs = search needs
-
-slice-aggregate-message-len : tie.Need-slice-aggregate-message-len
-slice-aggregate-message-len c = search needs
-
-slice-aggregate-up-to-5 : tie.Need-slice-aggregate-up-to-5
-slice-aggregate-up-to-5 c = search needs
-
-up-to-requires-5 : tie.Need-up-to-requires-5
-up-to-requires-5 c κs = search needs
-
-message-len-requires-2 : tie.Need-message-len-requires-2
-message-len-requires-2 c κs = search needs
-
-returns-2 : tie.Need-returns-2
-returns-2 c = measures (c .before .before .before .before .before .before .before .before .before .message .ensures) (c .before .before .before .before .up-to4 .ensures) (sym (default-list (c .before .before .before .before .before .before .before .before .before .before .args .self) (c .before .before .before .before .before .before .if1 .left))) (c .before .up-to5 .ensures) (c .message-len2 .ensures)
+returns c =
+    let s = c .before .before .before .args .self in
+    let e : length (extraOf s) ≡ s .«extra_len» = length-take-le (s .«extra_len») (s .extra) (omega (arith, c .before .before .before .pre .extra, extra-size (c .before .before .before))) in
+    omega (arith, e, c .before .asked-len .ensures .0, c .before .before .named-len .ensures .0, longest-length s (hardware-size (c .before .before .before)))
 
 pub longest-len-spec : {M : Type 1} → statement M
 longest-len-spec =
     tie.close
-    (tie.spec
-    message-requires
-    slice-aggregate-up-to
-    up-to-requires
-    slice-aggregate-up-to-2
-    up-to-requires-2
-    slice-aggregate-up-to-3
-    up-to-requires-3
-    message-len-requires
-    returns
-    slice-aggregate-up-to-4
-    up-to-requires-4
-    slice-aggregate-message-len
-    slice-aggregate-up-to-5
-    up-to-requires-5
-    message-len-requires-2
-    returns-2)
+    (tie.spec named-len-requires add-result asked-len-requires add-result-2 add-result-3 returns)
