@@ -32,6 +32,20 @@ impl Client {
         (self.transaction_id, state, self.lease().map(DhcpLease::plain))
     }
 
+    /// The moments of the state as one number, the id, and the lease's address and how much of its store is used.
+    pub(crate) fn glimpse(&self) -> (u32, u32, u32, u16) {
+        let deadlines = match &self.state {
+            ClientState::Init => 0,
+            ClientState::Discovering(s) => s.retry_at.as_millis(),
+            ClientState::Requesting(s) => s.retry_at.as_millis().wrapping_add(s.requested_ip.to_bits()),
+            ClientState::Renewing(s) => {
+                s.renew_at.as_millis().wrapping_add(s.rebind_at.as_millis()).wrapping_add(s.expires_at.as_millis())
+            }
+        };
+        let (address, used) = self.lease().map_or((0, 0), |l| (l.address.address().to_bits(), l.options.len));
+        (deadlines, self.transaction_id, address, used)
+    }
+
     pub(crate) fn set(&mut self, id: u32, state: &plain::State, lease: &plain::Lease) {
         self.transaction_id = id;
         self.state = match *state {

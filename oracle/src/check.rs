@@ -13,7 +13,7 @@ use crate::run::{Answers, Run};
 use crate::write::Writer;
 
 /// Whether the answer is a refusal that the Rust does not know: 9, and 2 to 6 at creation.
-fn by_definition(call: &Call, answer: &Answer) -> bool {
+pub fn by_definition(call: &Call, answer: &Answer) -> bool {
     answer.number() == 9 || *call == Call::New && (2..=6).contains(&answer.number())
 }
 

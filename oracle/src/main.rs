@@ -16,30 +16,52 @@ mod storage;
 mod time;
 mod wire;
 
+mod answers;
+mod bench;
 mod boundaries;
 mod check;
+mod closeup;
+mod compare;
+mod counts;
 mod demand;
+mod device;
+mod draw;
+mod episode;
 mod generate;
+mod history;
+mod legend;
+mod lines;
 mod lists;
 mod message;
 mod model;
+mod other;
+mod pitch;
 mod plain;
 mod post;
 mod read;
 mod record;
 mod replies;
+mod report;
+mod rows;
 mod run;
 mod season;
 mod show;
+mod shrink;
+mod simpler;
+mod source;
+mod svg;
+mod watch;
+mod words;
 mod write;
 
 use std::io::{self, BufRead, Write};
 use std::process::ExitCode;
 
+use lines::Lines;
 use plain::Plain;
 use post::Post;
 use read::Fields;
-use record::{Answer, LONGEST_LINE};
+use record::Answer;
 use run::{Answers, Run};
 use write::Writer;
 
@@ -54,9 +76,18 @@ const USAGE: &str = "usage: oracle answer                     answers the calls 
        oracle boundaries KIND            writes calls round the limits: KIND is creations, replies, polls or wire
        oracle check SEED COUNT [FAULT]   compares that many calls with the papers, and asks demand 3 of the Rust; FAULT, a
                                          wrong expectation that must be found, is late-expiry, lost-returns or early-waking
+       oracle compare REPLAY SEED CALLS JOBS
+                                         gives that many calls to the Rust and to the program REPLAY, JOBS lists at a time,
+                                         compares each answer, and shrinks the first difference; exit status 2 where
+                                         REPLAY cannot be run
+       oracle trace REPLAY CALLS [ANSWERS]
+                                         the same with the list of calls in a file, and with the answers that a device gave
        oracle season                     runs a whole season with the Rust's client, and prints what came of it
+       oracle season calls [SEED]        writes one pitch's season as a list of calls
+       oracle draw LIST FILE             draws the season of a list, from the answers on standard input, into an SVG file
+       oracle bench                      makes the calls of crates/bench/stdin, or others like them, over and over
 A list of calls comes on standard input, and docs/TRACE.md says how it is written. Exit status: 0, or 1 where a record is
-malformed, an expectation or the demand does not hold, or 2 where the command is wrong.";
+malformed, an expectation or the demand does not hold or there is nothing to draw, or 2 where the command is wrong.";
 
 fn main() -> ExitCode {
     post::keep_panics();
@@ -72,6 +103,13 @@ fn main() -> ExitCode {
         ["generate", kind, seed, count] => lists::generate(kind, seed, count),
         ["boundaries", kind] => lists::boundaries(kind),
         ["season"] => season::season(),
+        ["season", "calls"] => pitch::calls("1"),
+        ["season", "calls", seed] => pitch::calls(seed),
+        ["draw", list, file] => draw::draw(list, file),
+        ["compare", replay, seed, calls, jobs] => return compare::seeded(replay, seed, calls, jobs),
+        ["trace", replay, calls] => return compare::recorded(replay, calls, None),
+        ["trace", replay, calls, answers] => return compare::recorded(replay, calls, Some(answers)),
+        ["bench"] => bench::bench(),
         ["check", seed, count] => check::check(seed, count, "none"),
         ["check", seed, count, fault] => check::check(seed, count, fault),
         _ => {
@@ -92,23 +130,17 @@ fn number(text: &str) -> Result<u64, String> {
     text.parse().map_err(|_| format!("`{text}` is not a number"))
 }
 
-/// Hands each line to the caller, with its number from 1; empty ones and comments too.
-fn lines(mut each: impl FnMut(usize, &[u8]) -> Result<(), String>) -> Result<(), String> {
-    let mut input = io::stdin().lock();
-    let mut line = vec![];
+/// Hands each line of standard input to the caller, with its number from 1; empty ones and comments too.
+fn lines(each: impl FnMut(usize, &[u8]) -> Result<(), String>) -> Result<(), String> {
+    lines_of(io::stdin().lock(), each)
+}
+
+/// The same, of any input.
+fn lines_of(input: impl BufRead, mut each: impl FnMut(usize, &[u8]) -> Result<(), String>) -> Result<(), String> {
+    let mut input = Lines::new(input);
     for number in 1.. {
-        line.clear();
-        let most = LONGEST_LINE as u64 + 1;
-        let read = io::Read::take(&mut input, most).read_until(b'\n', &mut line).map_err(|e| e.to_string())?;
-        if read == 0 {
-            break;
-        }
-        if line.last() == Some(&b'\n') {
-            line.pop();
-        } else if line.len() > LONGEST_LINE {
-            return Err(format!("line {number}: longer than {LONGEST_LINE} characters"));
-        }
-        each(number, &line).map_err(|why| format!("line {number}: {why}"))?;
+        let Some(line) = input.next()? else { break };
+        each(number, line).map_err(|why| format!("line {number}: {why}"))?;
     }
     Ok(())
 }

@@ -20,7 +20,7 @@ use crate::wire::{DhcpOption, DhcpPacket, EthernetAddress, HardwareAddress, IpAd
 
 /// What stands before the datagram in a packet: the link's header and the IP header.
 const LINK: usize = 14;
-const HEADROOM: usize = LINK + 20;
+pub const HEADROOM: usize = LINK + 20;
 
 #[derive(Clone, Copy, Debug, Default, PartialEq, Eq)]
 pub struct Polled {
@@ -47,9 +47,9 @@ pub struct Post {
     settings_number: u8,
     /// Set by a record, or by a call that broke off: the Rust's own state is put in anew before the next call.
     stale: bool,
-    ifaces: Slab<IfaceState<'static>, 1>,
-    inner: StackInner,
-    pool: &'static StaticPool,
+    pub ifaces: Slab<IfaceState<'static>, 1>,
+    pub inner: StackInner,
+    pub pool: &'static StaticPool,
     /// What the Rust's configuration points to, while it is the client's.
     list: Vec<u8>,
     extra: Vec<u8>,
@@ -72,6 +72,13 @@ pub fn keep_panics() {
     }));
 }
 
+/// A call whose panics are kept.
+pub fn awaited(call: impl FnOnce()) {
+    PANIC.set(Some(String::new()));
+    call();
+    PANIC.take();
+}
+
 /// Whether the Rust panics because a message does not fit.
 fn caught(call: impl FnOnce()) -> bool {
     PANIC.set(Some(String::new()));
@@ -82,7 +89,7 @@ fn caught(call: impl FnOnce()) -> bool {
     broke
 }
 
-fn cidr(address: Address, prefix: u8) -> IpCidr {
+pub fn cidr(address: Address, prefix: u8) -> IpCidr {
     IpCidr::V4(Ipv4Cidr::new(address.into(), prefix))
 }
 
@@ -204,7 +211,7 @@ impl Post {
     }
 
     /// Puts a whole state into the Rust.
-    fn load(&mut self) {
+    pub fn load(&mut self) {
         if !self.stale {
             return;
         }
@@ -471,7 +478,7 @@ impl Answers for Post {
 
 /// The number of a reply's outcome, by what the Rust logged of it. It logs nothing of a reply to another hardware address
 /// or with another id, and of a NAK that it ignores only that it came.
-fn outcome(hardware: &[u8; 6], reply: &[u8]) -> u8 {
+pub fn outcome(hardware: &[u8; 6], reply: &[u8]) -> u8 {
     log::LINES.with_borrow(|lines| {
         let Some(first) = lines.texts.first() else {
             return if reply[28..34] != *hardware { 23 } else { 24 };

