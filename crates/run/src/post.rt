@@ -12,6 +12,8 @@ use clock::Duration;
 use clock::Instant;
 use clock::Rand;
 use judge::Verdict;
+use lease::DhcpLease;
+use lease::nothing;
 use machine::ClientState;
 use settings::Settings;
 use tables::Changed;
@@ -98,16 +100,25 @@ impl Post {
         }
         let made = self.client.made(self.rand, now, buf);
         if made.drops {
-            let polled = self.client.after(self.tables, made);
-            let client = polled.client;
-            let tables = polled.tables;
-            let rand = polled.rand;
-            let outcome = polled.outcome;
+            let applied = self.tables
+                .dhcpv4_apply(nothing(), self.client.lease.installed());
+            let settings = self.client.settings;
+            let state = made.state;
+            let lease = DhcpLease::zero();
+            let tables = applied.tables;
+            let drawn = made.rand;
+            let outcome = made.outcome;
             return PolledPost {
                 post: Post {
-                    client,
+                    client: Client {
+                        settings,
+                        ignore_naks: self.client.ignore_naks,
+                        state,
+                        lease,
+                        transaction_id: made.id,
+                    },
                     tables,
-                    rand,
+                    rand: drawn,
                     now,
                 },
                 outcome,
