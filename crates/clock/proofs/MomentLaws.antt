@@ -7,10 +7,10 @@ use native.Mathlib.Decide.{decLe}
 use native.Mathlib.Nat.{lt-of-not-le}
 use lib.Dec.{leb, ltb, eqb}
 use borrow.Author.Tests.{leb-true, leb-false, ltb-true, ltb-false, eqb-true, eqb-false, le-leb, lt-leb}
-use Rattle.clock.specs.Choice.{if_then_else_}
+use Rattle.choice.specs.Choice.{if_then_else_}
 use Rattle.clock.specs.Durations.{longest, clamp}
 use Rattle.clock.specs.Moments.{wrap, plus, gap, negative, before, due, rest, earlier, later}
-use Rattle.clock.proofs.Choices.{if-true, if-false}
+use Rattle.choice.proofs.Choices.{if-true, if-false}
 
 -- Two tests agree if their facts do.
 pub leb-iff : (a b c d : ℕ) → (a ≤ b → c ≤ d) → (c ≤ d → a ≤ b) → leb a b ≡ leb c d

@@ -1,7 +1,7 @@
 -- The clock of a single poll: document 01's "The waking moment is the earliest open deadline, at most 86,400,000 ms on."
 use Prim.Native.Nat.{ℕ}
 use mathlib.Core.Bool.{true, false}
-use Rattle.clock.specs.Choice.{if_then_else_}
+use Rattle.choice.specs.Choice.{if_then_else_}
 use Rattle.clock.specs.Moments.{plus, due, earlier, moment}
 use Rattle.clock.specs.declared.clock.Clock.{Clock}
 use Rattle.clock.specs.declared.clock.Expired.{Expired}

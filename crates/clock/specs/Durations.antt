@@ -1,7 +1,7 @@
 -- Durations: milliseconds, at most 1,073,741,824 (document 01, src/time.rs).
 use Prim.Native.Nat.{ℕ, _*_, min}
 use mathlib.Core.Bool.{Bool}
-use Rattle.clock.specs.Choice.{if_then_else_}
+use Rattle.choice.specs.Choice.{if_then_else_}
 use Rattle.clock.specs.declared.duration.Duration.{Duration}
 use Rattle.clock.specs.declared.duration.MaybeDuration.{MaybeDuration}
 use Rattle.clock.specs.declared.duration.MaybeDuration.the-variants.{None, Some}

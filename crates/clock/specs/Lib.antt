@@ -1,5 +1,4 @@
 -- What the contracts of `clock` mean, from document 01's sections on src/time.rs and src/rand.rs.
-pub mod Choice
 pub mod Durations
 pub mod Moments
 pub mod Clocks

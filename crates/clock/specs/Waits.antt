@@ -1,4 +1,4 @@
--- The client's waits, which every definition above takes as one record.
+-- The client's waits, as one record. Which ones a client has is `waitsOf` of settings.
 use Rattle.clock.specs.Durations.{duration}
 use Rattle.clock.specs.declared.waits.Waits.{Waits}
 

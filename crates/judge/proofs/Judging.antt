@@ -3,22 +3,22 @@ use mathlib.Core.Path.{_≡_, refl, sym}
 use mathlib.Core.Bool.{not}
 use mathlib.Core.List.{List}
 use Prim.Native.Nat.{ℕ, _≤_}
-use Rattle.clock.proofs.Choices.{if-cases}
+use Rattle.choice.proofs.Choices.{if-cases}
 use Rattle.octets.specs.declared.number.MaybeNumber.{MaybeNumber}
 use Rattle.octets.specs.declared.number.MaybeNumber.the-variants.{None, Some}
 use Rattle.wire.specs.Readings.{headerCheck, messageType, addressedTo, transactionId}
 use Rattle.wire.specs.declared.reply.Checked.{Checked}
 use Rattle.wire.specs.declared.reply.Checked.the-variants as check
-use Rattle.machine.specs.States.{awaited}
-use Rattle.machine.specs.declared.state.Awaited.{Awaited}
+use Rattle.judge.specs.declared.awaited.Awaited.{Awaited}
 use Rattle.machine.specs.declared.state.DhcpServerInfo.{DhcpServerInfo}
 use Rattle.judge.specs.Judged.{needing, judgedAs, judgedKind, judgedSender, judged, judgedOffer, judgedAddress, judgedAck, isId, afterHeader}
+use Rattle.judge.specs.Awaited.{awaited}
 use Rattle.judge.specs.declared.judge.Recipient.{Recipient}
 use Rattle.judge.specs.declared.judge.Verdict.{Verdict}
 use Rattle.judge.specs.declared.judge.Verdict.the-variants.{Offer, Ack, Nak, PassedOver}
 use Rattle.octets.specs.Addresses.{unicast}
 use Rattle.octets.proofs.Masks.{length-bound}
-use Rattle.machine.specs.declared.state.Awaited.the-variants as awaits
+use Rattle.judge.specs.declared.awaited.Awaited.the-variants as awaits
 
 -- a value that has to be there
 module _ {m : MaybeNumber} (number : ℕ) (next : ℕ → Verdict) where

@@ -5,21 +5,23 @@ use mathlib.Core.Bool.{Bool, true, false, not}
 use mathlib.Core.List.{List}
 use lib.Dec.{eqb}
 use borrow.Author.Tests.{eqb-true}
-use Rattle.clock.proofs.Choices.{if-cases}
+use Rattle.choice.proofs.Choices.{if-cases}
 use Rattle.octets.specs.Addresses.{unicast, prefixLen}
+use Rattle.octets.specs.Codes.{offer, ack, nak, maskCode}
 use Rattle.octets.specs.declared.number.MaybeNumber.{MaybeNumber}
 use Rattle.octets.specs.declared.number.MaybeNumber.the-variants.{None, Some}
 use Rattle.wire.specs.Options.{optionData}
 use Rattle.wire.specs.Readings.{headerCheck, addressedTo, transactionId, yourAddress, messageType, addressOf, ifUnicast}
 use Rattle.wire.specs.declared.reply.Checked.{Checked}
 use Rattle.wire.specs.declared.reply.Checked.the-variants as check
-use Rattle.machine.specs.States.{hasLease, offer, ack, nak, awaited, offerAlone, ackOrNak}
+use Rattle.machine.specs.States.{hasLease}
 use Rattle.machine.specs.declared.state.ClientState.{ClientState}
 use Rattle.machine.specs.declared.state.ClientState.the-variants.{Init, Discovering, Requesting, Renewing}
 use Rattle.machine.specs.declared.state.DhcpServerInfo.{DhcpServerInfo}
-use Rattle.machine.specs.declared.state.Awaited.{Awaited}
-use Rattle.machine.specs.declared.state.Awaited.the-variants as awaits
-use Rattle.judge.specs.Judged.{maskCode, needing, judgedOffer, judgedAddress, judgedAck, judgedAs, judgedKind, isId, judgedSender, afterHeader, judged}
+use Rattle.judge.specs.declared.awaited.Awaited.{Awaited}
+use Rattle.judge.specs.declared.awaited.Awaited.the-variants as awaits
+use Rattle.judge.specs.Judged.{needing, judgedOffer, judgedAddress, judgedAck, judgedAs, judgedKind, isId, judgedSender, afterHeader, judged}
+use Rattle.judge.specs.Awaited.{awaited, offerAlone, ackOrNak}
 use Rattle.judge.specs.declared.judge.Recipient.{Recipient}
 use Rattle.judge.specs.declared.judge.Verdict.{Verdict}
 use Rattle.judge.specs.declared.judge.Verdict.the-variants.{Offer, Ack, Nak, PassedOver}

@@ -5,28 +5,22 @@ use Prim.Native.Nat.{ℕ}
 use mathlib.Core.Bool.{Bool, false, not}
 use mathlib.Core.List.{List}
 use lib.Dec.{eqb}
-use Rattle.clock.specs.Choice.{if_then_else_}
+use Rattle.choice.specs.Choice.{if_then_else_}
 use Rattle.octets.specs.Addresses.{unicast, prefixLen}
+use Rattle.octets.specs.Codes.{maskCode, identifierCode}
 use Rattle.octets.specs.declared.number.MaybeNumber.{MaybeNumber}
 use Rattle.octets.specs.declared.number.MaybeNumber.the-variants.{None, Some}
 use Rattle.wire.specs.Options.{optionData}
 use Rattle.wire.specs.Readings.{headerCheck, addressedTo, transactionId, yourAddress, messageType, addressOf, ifUnicast}
 use Rattle.wire.specs.declared.reply.Checked.{Checked}
 use Rattle.wire.specs.declared.reply.Checked.the-variants as check
-use Rattle.machine.specs.States.{awaited}
 use Rattle.machine.specs.declared.state.DhcpServerInfo.{DhcpServerInfo}
-use Rattle.machine.specs.declared.state.Awaited.{Awaited}
-use Rattle.machine.specs.declared.state.Awaited.the-variants as awaits
+use Rattle.judge.specs.declared.awaited.Awaited.{Awaited}
+use Rattle.judge.specs.declared.awaited.Awaited.the-variants as awaits
+use Rattle.judge.specs.Awaited.{awaited}
 use Rattle.judge.specs.declared.judge.Recipient.{Recipient}
 use Rattle.judge.specs.declared.judge.Verdict.{Verdict}
 use Rattle.judge.specs.declared.judge.Verdict.the-variants.{Offer, Ack, Nak, PassedOver}
-
--- Codes of options (RFC 2132, sections 3.3 and 9.7).
-abbrev pub maskCode : ℕ
-maskCode = 1
-
-abbrev pub identifierCode : ℕ
-identifierCode = 54
 
 -- What follows from a value that has to be there, or the number under which the reply is passed over without it.
 unfoldable pub needing : MaybeNumber → ℕ → (ℕ → Verdict) → Verdict

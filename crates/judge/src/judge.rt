@@ -2,10 +2,12 @@
 ghost use mathlib.Core.Path.{_≡_};
 ghost use Prim.Native.Nat.{_≤_};
 ghost use Rattle.judge.specs.Judged.{isId, judged, judgedSender, judgedKind, judgedOffer, judgedAck, judgedAddress};
-use machine::Awaited;
+use crate::awaited::Awaited;
 use machine::ClientState;
 use machine::DhcpServerInfo;
 use octets::MaybeNumber;
+use octets::codes::OPT_SERVER_IDENTIFIER;
+use octets::codes::OPT_SUBNET_MASK;
 use wire::Checked;
 
 // What of a client decides on a reply.
@@ -34,10 +36,6 @@ pub enum Verdict {
     Nak,
     PassedOver(u32),
 }
-
-const OPT_SUBNET_MASK: u8 = 1;
-
-const OPT_SERVER_IDENTIFIER: u8 = 54;
 
 impl Recipient {
     // The checks in document 01's order: length and header, message type, then the rest.
@@ -79,7 +77,7 @@ impl Recipient {
             address: source,
             identifier,
         };
-        match state.awaited(kind, self.ignoring) {
+        match Awaited::of(state, kind, self.ignoring) {
             Awaited::Offer => judge_offer(server, reply),
             Awaited::Ack => judge_ack(server, reply),
             Awaited::Nak => Verdict::Nak,

@@ -8,7 +8,7 @@ use native.Mathlib.Nat.{not-suc-le-zero, le-of-suc-le-suc}
 use lib.ListN.{length, take, getD, length-take}
 use lib.Dec.{eqb}
 use borrow.Author.Tests.{eq-eqb, ne-eqb, eqb-true, eqb-false}
-use Rattle.clock.proofs.Choices.{if-true, if-false, if-cases}
+use Rattle.choice.proofs.Choices.{if-true, if-false, if-cases}
 use Rattle.octets.specs.Runs.{sameBytes}
 use Rattle.octets.proofs.Runs.{same-lengths, take-most}
 

@@ -6,6 +6,7 @@ use Rattle.clock.specs.Durations.{duration}
 use Rattle.clock.specs.declared.duration.Duration.{Duration}
 use Rattle.clock.specs.declared.duration.MaybeDuration.{MaybeDuration}
 use Rattle.clock.specs.declared.instant.Instant.{Instant}
+use Rattle.octets.specs.Codes.{leaseTimeCode}
 use Rattle.octets.specs.declared.number.MaybeNumber.{MaybeNumber}
 use Rattle.wire.specs.Options.{optionData}
 use Rattle.wire.specs.Readings.{secondsOf}
@@ -15,7 +16,7 @@ use Rattle.machine.specs.declared.state.ClientState.{ClientState}
 use Rattle.machine.specs.declared.times.Row.{Row}
 use Rattle.machine.specs.declared.times.Times.{Times}
 use Rattle.settings.specs.Settings.{maximumOf}
-use Rattle.lease.specs.Bound.{leaseTimeCode, replyRow, boundBy}
+use Rattle.lease.specs.Bound.{replyRow, boundBy}
 use Rattle.settings.specs.declared.settings.Settings.{Settings}
 
 -- the moments of an ACK

@@ -4,6 +4,7 @@ use mathlib.Core.List.{List}
 use Rattle.clock.specs.Durations.{duration}
 use Rattle.clock.specs.declared.instant.Instant.{Instant}
 use Rattle.clock.specs.declared.duration.MaybeDuration.{MaybeDuration}
+use Rattle.octets.specs.Codes.{leaseTimeCode, renewalCode, rebindingCode}
 use Rattle.wire.specs.Options.{optionData}
 use Rattle.wire.specs.Readings.{secondsOf}
 use Rattle.machine.specs.Times.{given, leaseTime, rowOf, timesOf}
@@ -13,16 +14,6 @@ use Rattle.machine.specs.declared.state.ClientState.the-variants.{Renewing}
 use Rattle.machine.specs.declared.times.Row.{Row}
 use Rattle.settings.specs.Settings.{maximumOf}
 use Rattle.settings.specs.declared.settings.Settings.{Settings}
-
--- Codes of options that give a time (RFC 2132, sections 9.2, 9.11 and 9.12).
-abbrev pub leaseTimeCode : ℕ
-leaseTimeCode = 51
-
-abbrev pub renewalCode : ℕ
-renewalCode = 58
-
-abbrev pub rebindingCode : ℕ
-rebindingCode = 59
 
 -- L of a reply, under a maximum.
 abbrev pub replyLease : MaybeDuration → List ℕ → ℕ

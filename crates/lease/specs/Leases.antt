@@ -4,8 +4,9 @@ use mathlib.Core.Bool.{Bool, false, not, _&&_}
 use mathlib.Core.List.{List}
 use lib.ListN.{take, replicate}
 use lib.Dec.{ltb, eqb}
-use Rattle.clock.specs.Choice.{if_then_else_}
+use Rattle.choice.specs.Choice.{if_then_else_}
 use Rattle.octets.specs.Runs.{sameBytes}
+use Rattle.octets.specs.Codes.{dnsCode}
 use Rattle.octets.specs.declared.number.MaybeNumber.the-variants.{None}
 use Rattle.wire.specs.Options.{optionData}
 use Rattle.wire.specs.Readings.{router, addressesOf}
@@ -28,10 +29,6 @@ noLease = record {
   dns = record { list = replicate 3 0; count = 0 };
   options = emptyStore;
 }
-
--- Code of the option with the DNS servers (RFC 2132, section 3.8).
-abbrev pub dnsCode : ℕ
-dnsCode = 6
 
 -- The lease of an ACK with this address and prefix. "DNS: groups of 4, unicast only, first 3. Router: first address, if
 -- unicast."

@@ -5,13 +5,10 @@ use clock::Duration;
 use clock::Instant;
 use machine::ClientState;
 use machine::Row;
+use octets::codes::OPT_IP_LEASE_TIME;
+use octets::codes::OPT_REBINDING_TIME_VALUE;
+use octets::codes::OPT_RENEWAL_TIME_VALUE;
 use settings::Settings;
-
-const OPT_IP_LEASE_TIME: u8 = 51;
-
-const OPT_RENEWAL_TIME_VALUE: u8 = 58;
-
-const OPT_REBINDING_TIME_VALUE: u8 = 59;
 
 // Renewing, by the times of an ACK.
 pub fn bound(settings: Settings, reply: &[u8], moment: Instant) -> ClientState

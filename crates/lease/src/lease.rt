@@ -3,6 +3,7 @@ ghost use mathlib.Core.Path.{_≡_};
 ghost use Rattle.lease.specs.Leases.{noLease, wholeLease, sameTerms, sameAddresses, sameLease, installed, nothing, leaseOf};
 use machine::DhcpServerInfo;
 use octets::MaybeNumber;
+use octets::codes::OPT_DOMAIN_NAME_SERVER;
 use octets::number::at_most;
 use tables::Installed;
 use tables::MaybeCidr;
@@ -24,8 +25,6 @@ pub struct DhcpLease {
 }
 
 const DNS_LIMIT: usize = 3;
-
-const OPT_DOMAIN_NAME_SERVER: u8 = 6;
 
 impl DhcpLease {
     // All zero.

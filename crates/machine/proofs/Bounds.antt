@@ -7,7 +7,7 @@ use Rattle.clock.specs.Durations.{longest}
 use Rattle.clock.specs.declared.duration.Duration.{Duration}
 use Rattle.clock.specs.declared.duration.MaybeDuration.{MaybeDuration}
 use Rattle.clock.specs.declared.duration.MaybeDuration.the-variants as time
-use Rattle.clock.proofs.Choices.{if-cases}
+use Rattle.choice.proofs.Choices.{if-cases}
 use Rattle.octets.specs.declared.number.MaybeNumber.{MaybeNumber}
 use Rattle.octets.specs.declared.number.MaybeNumber.the-variants.{None, Some}
 use Rattle.machine.specs.Times.{leaseTime, rowOf, bothRow, renewAfter, rebindAfter}

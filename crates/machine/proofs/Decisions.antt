@@ -12,17 +12,17 @@ use Rattle.clock.specs.Durations.{longest, clamp}
 use Rattle.clock.specs.Moments.{wrap, before, due, rest, earlier, moment}
 use Rattle.clock.specs.Clocks.{day}
 use Rattle.clock.specs.declared.waits.Waits.{Waits}
-use Rattle.clock.proofs.Choices.{if-true, if-false, if-cases}
+use Rattle.choice.proofs.Choices.{if-true, if-false, if-cases}
 use Rattle.clock.proofs.MomentLaws.{plus-near, before-near, due-near, rest-near, earlier-near}
-use Rattle.machine.specs.Polling.{waking, waits, sends, discovers, decidedDiscovering, requestWait, requested, decidedRequesting, retryAt, rebinds, renewWait, renewed, rebindWait, rebound, decidedRenewing, decided, following, InRange}
+use Rattle.machine.specs.Decisions.{waking, waits, sends, discovers, decidedDiscovering, requestWait, requested, decidedRequesting, retryAt, rebinds, renewWait, renewed, rebindWait, rebound, decidedRenewing, decided, following, InRange}
 use Rattle.machine.specs.declared.state.ClientState.{ClientState}
 use Rattle.machine.specs.declared.state.DiscoverState.{DiscoverState}
 use Rattle.machine.specs.declared.state.RequestState.{RequestState}
 use Rattle.machine.specs.declared.state.RenewState.{RenewState}
-use Rattle.machine.specs.declared.poll.Sending.{Sending}
-use Rattle.machine.specs.declared.poll.Sending.the-variants as message
-use Rattle.machine.specs.declared.poll.Due.the-variants.{Nothing, Send}
-use Rattle.machine.specs.declared.poll.Decision.{Decision}
+use Rattle.machine.specs.declared.decide.Sending.{Sending}
+use Rattle.machine.specs.declared.decide.Sending.the-variants as message
+use Rattle.machine.specs.declared.decide.Due.the-variants.{Nothing, Send}
+use Rattle.machine.specs.declared.decide.Decision.{Decision}
 use Rattle.machine.proofs.Timers.{Timers, unset, single, leased, Shows, init, discovering as discovering-shows, requesting as requesting-shows, renewing as renewing-shows, Near, Ahead, soonest, wakeAt}
 
 -- no lease, or one that is over

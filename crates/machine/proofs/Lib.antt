@@ -1,6 +1,6 @@
 pub mod Rows
 pub mod Order
 pub mod Bounds
-pub mod Polls
+pub mod Deadlines
 pub mod Timers
 pub mod Decisions

@@ -6,7 +6,7 @@ use Rattle.clock.specs.Durations.{duration}
 use Rattle.clock.specs.declared.duration.Duration.{Duration}
 use Rattle.clock.specs.declared.duration.MaybeDuration.{MaybeDuration}
 use Rattle.clock.specs.declared.duration.MaybeDuration.the-variants as time
-use Rattle.clock.proofs.Choices.{if-true, if-false}
+use Rattle.choice.proofs.Choices.{if-true, if-false}
 use Rattle.octets.specs.declared.number.MaybeNumber.{MaybeNumber}
 use Rattle.machine.specs.Times.{given, orDefault, leaseTime, rowOf, timesOf}
 use Rattle.machine.specs.declared.times.Row.{Row}

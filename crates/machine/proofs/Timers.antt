@@ -26,6 +26,13 @@ pub data Shows : Timers → ClientState → Type 0 where
   renewing : {a b e : ℕ} {s : RenewState} → s .«renew_at» .millis ≡ wrap a → s .«rebind_at» .millis ≡ wrap b → s .«expires_at» .millis ≡ wrap e
       → Shows (leased a b e (s .rebinding)) (Renewing s)
 
+-- A state without a lease, at t: its one deadline is now or at most the longest duration on.
+pub record Waiting (t : ℕ) (state : ClientState) : Type 0 where
+  pub until : ℕ
+  pub from : t ≤ until
+  pub most : until ≤ t + longest
+  pub shows : Shows (single until) state
+
 abbrev Unless : Bool → Type 0 → Type 0
 Unless true X = Unit {0}
 Unless false X = X

@@ -1,3 +1,3 @@
 pub mod Times
 pub mod States
-pub mod Polling
+pub mod Decisions

@@ -1,7 +1,7 @@
 -- How long a lease is and when it is renewed and rebound, in milliseconds (document 01, "Reading a reply").
 use Prim.Native.Nat.{ℕ, _+_, _*_, _-_, _/_, min}
 use lib.Dec.{ltb}
-use Rattle.clock.specs.Choice.{if_then_else_}
+use Rattle.choice.specs.Choice.{if_then_else_}
 use Rattle.clock.specs.Durations.{seconds, duration}
 use Rattle.clock.specs.declared.duration.Duration.{Duration}
 use Rattle.clock.specs.declared.duration.MaybeDuration.{MaybeDuration}

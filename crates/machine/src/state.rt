@@ -1,6 +1,6 @@
-// The client's states, and what they make of a reply's message type.
+// The client's states.
 ghost use mathlib.Core.Path.{_≡_};
-ghost use Rattle.machine.specs.States.{hasLease, awaited, offerAlone, ackOrNak, requesting, renewing};
+ghost use Rattle.machine.specs.States.{hasLease, requesting, renewing};
 use crate::times::Times;
 use clock::Duration;
 use clock::Instant;
@@ -54,21 +54,6 @@ pub enum ClientState {
     Renewing(RenewState),
 }
 
-// What a reply is to the state it meets.
-pub enum Awaited {
-    Offer,
-    Ack,
-    Nak,
-    Nothing,
-}
-
-// Values of option 53.
-const OFFER: u32 = 2;
-
-const ACK: u32 = 5;
-
-const NAK: u32 = 6;
-
 impl ClientState {
     // Whether a lease is held.
     pub fn has_lease(self) -> bool
@@ -79,18 +64,6 @@ impl ClientState {
             ClientState::Discovering(s) => false,
             ClientState::Requesting(s) => false,
             ClientState::Renewing(s) => true,
-        }
-    }
-
-    // What a reply of a message type is to this state, where NAKs are ignored or not.
-    pub fn awaited(self, kind: u32, ignoring: bool) -> Awaited
-        ensures { λ r. ⌜ r ≡ awaited self kind ignoring ⌝ }
-    {
-        match self {
-            ClientState::Init => Awaited::Nothing,
-            ClientState::Discovering(s) => offer_alone(kind),
-            ClientState::Requesting(s) => ack_or_nak(kind, ignoring),
-            ClientState::Renewing(s) => ack_or_nak(kind, ignoring),
         }
     }
 
@@ -121,30 +94,4 @@ impl ClientState {
             rebinding: false,
         })
     }
-}
-
-// Discovering awaits an OFFER alone.
-fn offer_alone(kind: u32) -> Awaited
-    ensures { λ r. ⌜ r ≡ offerAlone kind ⌝ }
-{
-    if kind == OFFER {
-        return Awaited::Offer;
-    }
-    Awaited::Nothing
-}
-
-// Requesting and Renewing await an ACK, and a NAK unless these are ignored.
-fn ack_or_nak(kind: u32, ignoring: bool) -> Awaited
-    ensures { λ r. ⌜ r ≡ ackOrNak kind ignoring ⌝ }
-{
-    if kind == ACK {
-        return Awaited::Ack;
-    }
-    if kind != NAK {
-        return Awaited::Nothing;
-    }
-    if ignoring {
-        return Awaited::Nothing;
-    }
-    Awaited::Nak
 }

@@ -7,14 +7,14 @@ use native.Mathlib.Omega.{arith}
 use lib.ListN.{length}
 use lib.Dec.{ltb}
 use borrow.Author.Tests.{ltb-false, not-false, le-leb, lt-leb}
-use Rattle.clock.specs.Choice.{if_then_else_}
+use Rattle.choice.specs.Choice.{if_then_else_}
 use Rattle.octets.specs.Runs.{over}
 use Rattle.octets.specs.Items.{wholeItems}
 use Rattle.message.specs.Messages.{message}
 use Rattle.message.specs.Datagrams.{datagram}
 use Rattle.message.specs.Written.{listFits, measured, written, bufferAfter}
 use Rattle.message.specs.Pieces.{Short}
-use Rattle.message.specs.declared.datagram.Route.{Route}
+use Rattle.message.specs.declared.datagram.Endpoints.{Endpoints}
 use Rattle.message.specs.declared.message.Message.{Message}
 use Rattle.message.specs.declared.message.Answer.the-variants.{Length, Refused}
 
@@ -49,12 +49,12 @@ module _ (m : Message) (name list extra : List ℕ) where
   refused room e = rw e
 
   -- the buffer after it
-  pub leaves-datagram : {n : ℕ} (route : Route) (buffer : List ℕ) → written m name list extra (length buffer) ≡ Length n
-      → bufferAfter route m name list extra buffer ≡ over (datagram route (message m name list extra)) buffer
+  pub leaves-datagram : {n : ℕ} (ends : Endpoints) (offload : Bool) (buffer : List ℕ) → written m name list extra (length buffer) ≡ Length n
+      → bufferAfter ends offload m name list extra buffer ≡ over (datagram ends offload (message m name list extra)) buffer
   unfolding bufferAfter
-  leaves-datagram route buffer e = rw e
+  leaves-datagram ends offload buffer e = rw e
 
-  pub leaves-all : {k : ℕ} (route : Route) (buffer : List ℕ) → written m name list extra (length buffer) ≡ Refused k
-      → bufferAfter route m name list extra buffer ≡ buffer
+  pub leaves-all : {k : ℕ} (ends : Endpoints) (offload : Bool) (buffer : List ℕ) → written m name list extra (length buffer) ≡ Refused k
+      → bufferAfter ends offload m name list extra buffer ≡ buffer
   unfolding bufferAfter
-  leaves-all route buffer e = rw e
+  leaves-all ends offload buffer e = rw e

@@ -5,11 +5,11 @@ use mathlib.Core.List.{List, [], _∷_, _++_}
 use Prim.Native.Nat.{ℕ, _+_}
 use lib.ListN.{length, length-append}
 use native.Mathlib.Omega.{arith}
-use Rattle.clock.specs.Choice.{if_then_else_}
+use Rattle.choice.specs.Choice.{if_then_else_}
 use Rattle.octets.specs.Words.{bytes16}
 use Rattle.message.specs.Datagrams.{udp, checksumField, datagram}
 use Rattle.message.specs.Pieces.{Wrote, summed}
-use Rattle.message.specs.declared.datagram.Route.{Route}
+use Rattle.message.specs.declared.datagram.Endpoints.{Endpoints}
 use Rattle.message.proofs.Writers.{row, patch, front}
 
 -- the header, with the datagram's size and an empty checksum field, and the message after it
@@ -17,32 +17,22 @@ pub headed : (size : ℕ) (body : List ℕ) {r n : ℕ} {buf xs ys : List ℕ} �
     → Wrote r body xs n ys → Wrote 0 (udp (0 ∷ 0 ∷ []) body) buf n ys
 headed size body e h b = rw e at (row h b)
 
-module _ (route : Route) (body : List ℕ) {n : ℕ} {buf xs ys : List ℕ} (w : Wrote 0 (udp (0 ∷ 0 ∷ []) body) buf n xs) where
-  device : route .offload ≡ true → ys ≡ summed route n xs → Wrote 0 (datagram route body) buf n ys
+-- then the checksum, if it is not the device's
+module _ (ends : Endpoints) (body : List ℕ) {n : ℕ} {buf xs ys : List ℕ} (w : Wrote 0 (udp (0 ∷ 0 ∷ []) body) buf n xs) where
+  pub finish : (offload : Bool) → ys ≡ summed ends offload n xs → Wrote 0 (datagram ends offload body) buf n ys
   unfolding datagram checksumField summed if_then_else_
-  device e s = rw (simp e at s) (simp e w)
-
-  here : route .offload ≡ false → ys ≡ summed route n xs → Wrote 0 (datagram route body) buf n ys
-  unfolding datagram checksumField summed if_then_else_
-  here e s = simp e (patch (0 ∷ 68 ∷ 0 ∷ 67 ∷ bytes16 (8 + length body)) (0 ∷ 0 ∷ []) body _ refl w (rw (front w) at (simp e at s)))
-
-  by-offload : (b : Bool) → route .offload ≡ b → ys ≡ summed route n xs → Wrote 0 (datagram route body) buf n ys
-  by-offload true e s = device e s
-  by-offload false e s = here e s
-
-  -- then the checksum, if it is not the device's
-  pub finish : ys ≡ summed route n xs → Wrote 0 (datagram route body) buf n ys
-  finish s = by-offload (route .offload) refl s
+  finish true s = rw s w
+  finish false s = patch (0 ∷ 68 ∷ 0 ∷ 67 ∷ bytes16 (8 + length body)) (0 ∷ 0 ∷ []) body _ refl w (rw (front w) at s)
 
 two : (b : Bool) (v : List ℕ) → length v ≡ 2 → length (if b then 0 ∷ 0 ∷ [] else v) ≡ 2
 unfolding if_then_else_
 two true v h = refl
 two false v h = h
 
-field-length : (route : Route) (body : List ℕ) → length (checksumField route body) ≡ 2
+field-length : (ends : Endpoints) (offload : Bool) (body : List ℕ) → length (checksumField ends offload body) ≡ 2
 unfolding checksumField
-field-length route body = two (route .offload) _ refl
+field-length ends offload body = two offload _ refl
 
-pub datagram-length : (route : Route) (body : List ℕ) → length (datagram route body) ≡ 8 + length body
+pub datagram-length : (ends : Endpoints) (offload : Bool) (body : List ℕ) → length (datagram ends offload body) ≡ 8 + length body
 unfolding datagram
-datagram-length route body = simp length-append (omega (arith, field-length route body))
+datagram-length ends offload body = simp length-append (omega (arith, field-length ends offload body))

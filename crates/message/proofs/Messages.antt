@@ -6,11 +6,12 @@ use Prim.Native.Nat.{ℕ, _+_, _≤_}
 use native.Mathlib.Omega.{arith}
 use lib.ListN.{length, getD, length-append}
 use borrow.Author.Tests.{leb-true}
-use Rattle.clock.specs.Choice.{if_then_else_}
+use Rattle.choice.specs.Choice.{if_then_else_}
 use Rattle.octets.specs.Words.{bytes16, bytes32}
 use Rattle.octets.specs.declared.number.MaybeNumber.{MaybeNumber}
 use Rattle.octets.specs.declared.number.MaybeNumber.the-variants.{None, Some}
 use Rattle.octets.specs.Items.{option}
+use Rattle.octets.specs.Codes.{endCode, hostNameCode, requestedCode, identifierCode, requestListCode, messageSizeCode}
 use Rattle.message.specs.Messages.{header, optionIf, addressOption, sizeOption, nameOption, who, given, message}
 use Rattle.message.specs.Pieces.{last, Short}
 use Rattle.message.specs.Written.{listFits}
@@ -52,7 +53,7 @@ pub size-none : (kind : ℕ) {m : MaybeNumber} → m ≡ None → sizeOption kin
 unfolding sizeOption
 size-none kind e = rw e
 
-pub name-some : (name : List ℕ) → (length name ≡ 0 → ⊥) → nameOption name ≡ option 12 name
+pub name-some : (name : List ℕ) → (length name ≡ 0 → ⊥) → nameOption name ≡ option hostNameCode name
 unfolding nameOption
 name-some [] h = absurd (h refl)
 name-some (x ∷ xs) h = refl
@@ -79,7 +80,7 @@ unfolding listFits if_then_else_
 list-most true n h e = leb-true n 64 h
 list-most false n h e = absurd (let z : _≡_ {A = ℕ} 0 1 = cc in omega arith)
 
-pub option-most : (asks : Bool) (list : List ℕ) → listFits asks (length list) ≡ true → length (optionIf asks 55 list) ≤ 66
+pub option-most : (asks : Bool) (list : List ℕ) → listFits asks (length list) ≡ true → length (optionIf asks requestListCode list) ≤ 66
 unfolding listFits optionIf if_then_else_
 option-most true list h = omega (arith, leb-true (length list) 64 h)
 option-most false list h = omega arith
@@ -92,14 +93,14 @@ name-most (x ∷ xs) h = omega arith
 -- the length of a message
 pub message-length : (m : Message) (name list extra : List ℕ) → length (m .hardware) ≡ 6
     → length (message m name list extra)
-    ≡ 253 + length (nameOption name) + (length (addressOption 50 (m .requested)) + length (addressOption 54 (m .server)) + length (sizeOption 57 (m .size))) + length (optionIf (m .asks) 55 list) + length extra
+    ≡ 253 + length (nameOption name) + (length (addressOption requestedCode (m .requested)) + length (addressOption identifierCode (m .server)) + length (sizeOption messageSizeCode (m .size))) + length (optionIf (m .asks) requestListCode list) + length extra
 unfolding message
 message-length m name list extra h = simp length-append (omega arith)
 
 -- the longest message
 pub message-most : (m : Message) (name list extra : List ℕ) → length (m .hardware) ≡ 6 → Short m name list extra → length (message m name list extra) ≤ 655
 message-most m name list extra h s =
-    omega (arith, message-length m name list extra h, name-most name (s .named), option-most (m .asks) list (s .listed), address-most 50 (m .requested), address-most 54 (m .server), size-most 57 (m .size))
+    omega (arith, message-length m name list extra h, name-most name (s .named), option-most (m .asks) list (s .listed), address-most requestedCode (m .requested), address-most identifierCode (m .server), size-most messageSizeCode (m .size))
 
 -- a message as it is written: header, then the options in three groups
 regrouped : (h w g l x e : List ℕ) → h ++ (w ++ (g ++ (l ++ (x ++ e)))) ≡ h ++ ((w ++ (g ++ (l ++ x))) ++ e)
@@ -109,4 +110,4 @@ pub groups : (m : Message) (name list extra : List ℕ)
     → header (m .id) (m .client) (m .hardware) ++ (who (m .kind) (m .hardware) name ++ (given (m .requested) (m .server) (m .size) ++ last (m .asks) list extra)) ≡ message m name list extra
 unfolding message
 groups m name list extra =
-    regrouped (header (m .id) (m .client) (m .hardware)) (who (m .kind) (m .hardware) name) (given (m .requested) (m .server) (m .size)) (optionIf (m .asks) 55 list) extra (255 ∷ [])
+    regrouped (header (m .id) (m .client) (m .hardware)) (who (m .kind) (m .hardware) name) (given (m .requested) (m .server) (m .size)) (optionIf (m .asks) requestListCode list) extra (endCode ∷ [])

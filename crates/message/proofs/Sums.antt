@@ -5,7 +5,7 @@ use mathlib.Core.List.{List, [], _∷_, _++_}
 use native.Mathlib.Omega.{arith}
 use native.Mathlib.Decide.{decLe}
 use borrow.Author.Tests.{eq-eqb, ne-eqb, le-leb, lt-leb}
-use Rattle.clock.specs.Choice.{if_then_else_}
+use Rattle.choice.specs.Choice.{if_then_else_}
 use lib.ListN.{length, getD, drop}
 use Rattle.octets.specs.Words.{word16}
 use Rattle.message.specs.Datagrams.{onesAdd, onesSum, pseudoHeader}

@@ -1,11 +1,12 @@
 -- UDP datagrams (RFC 768) and the Internet checksum (RFC 1071).
 use Prim.Native.Nat.{ℕ, _+_, _-_}
+use mathlib.Core.Bool.{Bool}
 use mathlib.Core.List.{List, [], _∷_, _++_}
 use lib.ListN.{length}
 use lib.Dec.{eqb, leb}
-use Rattle.clock.specs.Choice.{if_then_else_}
+use Rattle.choice.specs.Choice.{if_then_else_}
 use Rattle.octets.specs.Words.{word16, bytes16, bytes32}
-use Rattle.message.specs.declared.datagram.Route.{Route}
+use Rattle.message.specs.declared.datagram.Endpoints.{Endpoints}
 
 -- The one's complement sum of two words: the carry comes in at the low end.
 unfoldable pub onesAdd : ℕ → ℕ → ℕ
@@ -34,11 +35,11 @@ abbrev pub udp : List ℕ → List ℕ → List ℕ
 udp field body = (0 ∷ 68 ∷ 0 ∷ 67 ∷ bytes16 (8 + length body)) ++ (field ++ body)
 
 -- The checksum field: 0 where the device works the checksum out.
-unfoldable pub checksumField : Route → List ℕ → List ℕ
-checksumField route body =
-    if route .offload then 0 ∷ 0 ∷ []
-    else bytes16 (checksum (route .source) (route .destination) (udp (0 ∷ 0 ∷ []) body))
+unfoldable pub checksumField : Endpoints → Bool → List ℕ → List ℕ
+checksumField ends offload body =
+    if offload then 0 ∷ 0 ∷ []
+    else bytes16 (checksum (ends .source) (ends .destination) (udp (0 ∷ 0 ∷ []) body))
 
 -- A message as a datagram.
-unfoldable pub datagram : Route → List ℕ → List ℕ
-datagram route body = udp (checksumField route body) body
+unfoldable pub datagram : Endpoints → Bool → List ℕ → List ℕ
+datagram ends offload body = udp (checksumField ends offload body) body

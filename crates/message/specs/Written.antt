@@ -4,12 +4,12 @@ use mathlib.Core.Bool.{Bool, true, not}
 use mathlib.Core.List.{List}
 use lib.ListN.{length}
 use lib.Dec.{leb, ltb}
-use Rattle.clock.specs.Choice.{if_then_else_}
+use Rattle.choice.specs.Choice.{if_then_else_}
 use Rattle.octets.specs.Runs.{over}
 use Rattle.octets.specs.Items.{wholeItems}
 use Rattle.message.specs.Messages.{message}
 use Rattle.message.specs.Datagrams.{datagram}
-use Rattle.message.specs.declared.datagram.Route.{Route}
+use Rattle.message.specs.declared.datagram.Endpoints.{Endpoints}
 use Rattle.message.specs.declared.message.Message.{Message}
 use Rattle.message.specs.declared.message.Answer.{Answer}
 use Rattle.message.specs.declared.message.Answer.the-variants.{Length, Refused}
@@ -51,6 +51,6 @@ leaves (Length size) out buffer = over out buffer
 unfoldable pub written : Message → List ℕ → List ℕ → List ℕ → ℕ → Answer
 written m name list extra room = fitted room (measured m name list extra)
 
-unfoldable pub bufferAfter : Route → Message → List ℕ → List ℕ → List ℕ → List ℕ → List ℕ
-bufferAfter route m name list extra buffer =
-    leaves (written m name list extra (length buffer)) (datagram route (message m name list extra)) buffer
+unfoldable pub bufferAfter : Endpoints → Bool → Message → List ℕ → List ℕ → List ℕ → List ℕ → List ℕ
+bufferAfter ends offload m name list extra buffer =
+    leaves (written m name list extra (length buffer)) (datagram ends offload (message m name list extra)) buffer

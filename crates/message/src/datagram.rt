@@ -15,31 +15,31 @@ use crate::message::put_message;
 use crate::put::put_bytes;
 use crate::sum::checksum;
 
-// Where a datagram comes from and goes to, and whether the device works its checksum out.
-pub struct Route {
+// Where a datagram comes from and where it goes to.
+pub struct Endpoints {
     pub source: u32,
     pub destination: u32,
-    pub offload: bool,
 }
 
 // Writes a message as a datagram at the start of buf and answers the datagram's length, or refuses by 3, 4, 5 or 8 and
-// writes nothing.
+// writes nothing. With offload the device works the checksum out.
 pub fn write_message(
     buf: &mut [u8],
-    route: Route,
+    ends: Endpoints,
+    offload: bool,
     m: Message,
     name: &[u8],
     list: &[u8],
     extra: &[u8],
 ) -> Answer
-    ensures { λ r. ⌜ (r ≡ written m (now (name .entry)) (now (list .entry)) (now (extra .entry)) (length (now (buf .entry)))) × (now (buf .exit) ≡ bufferAfter route m (now (name .entry)) (now (list .entry)) (now (extra .entry)) (now (buf .entry))) ⌝ }
+    ensures { λ r. ⌜ (r ≡ written m (now (name .entry)) (now (list .entry)) (now (extra .entry)) (length (now (buf .entry)))) × (now (buf .exit) ≡ bufferAfter ends offload m (now (name .entry)) (now (list .entry)) (now (extra .entry)) (now (buf .entry))) ⌝ }
 {
     match message_len(m, name, list, extra) {
         Answer::Length(n) => {
             if buf.len() < 8 + n {
                 return Answer::Refused(8);
             }
-            Answer::Length(put_datagram(buf, n, route, m, name, list, extra))
+            Answer::Length(put_datagram(buf, n, ends, offload, m, name, list, extra))
         }
         Answer::Refused(number) => Answer::Refused(number),
     }
@@ -49,7 +49,8 @@ pub fn write_message(
 fn put_datagram(
     buf: &mut [u8],
     n: usize,
-    route: Route,
+    ends: Endpoints,
+    offload: bool,
     m: Message,
     name: &[u8],
     list: &[u8],
@@ -57,11 +58,11 @@ fn put_datagram(
 ) -> usize
     requires { ⌜ Short m (now name) (now list) (now extra) ⌝ }
     requires { ⌜ (n ≡ length (message m (now name) (now list) (now extra))) × (8 + n ≤ length (now buf)) ⌝ }
-    ensures { λ r. ⌜ Wrote 0 (datagram route (message m (now (name .entry)) (now (list .entry)) (now (extra .entry)))) (now (buf .entry)) r (now (buf .exit)) ⌝ }
+    ensures { λ r. ⌜ Wrote 0 (datagram ends offload (message m (now (name .entry)) (now (list .entry)) (now (extra .entry)))) (now (buf .entry)) r (now (buf .exit)) ⌝ }
 {
     let n1 = put_udp(buf, 8 + n);
     let n2 = put_message(buf, n1, m, name, list, extra);
-    put_checksum(buf, n2, route);
+    put_checksum(buf, n2, ends, offload);
     n2
 }
 
@@ -76,14 +77,14 @@ fn put_udp(buf: &mut [u8], n: usize) -> usize
 }
 
 // The checksum into a datagram of n octets at the start of buf, unless the device works it out.
-fn put_checksum(buf: &mut [u8], n: usize, route: Route)
+fn put_checksum(buf: &mut [u8], n: usize, ends: Endpoints, offload: bool)
     requires { ⌜ (8 ≤ n) × (n ≤ length (now buf)) ⌝ }
-    ensures { λ _. ⌜ now (buf .exit) ≡ summed route n (now (buf .entry)) ⌝ }
+    ensures { λ _. ⌜ now (buf .exit) ≡ summed ends offload n (now (buf .entry)) ⌝ }
 {
-    if route.offload {
+    if offload {
         return;
     }
-    let sum = checksum(route.source, route.destination, &buf[..n]);
+    let sum = checksum(ends.source, ends.destination, &buf[..n]);
     let field = octets::word::split2(sum as u32);
     put_bytes(buf, 6, &field);
 }

@@ -10,7 +10,7 @@ mod options;
 mod put;
 pub mod sum;
 
-pub use datagram::Route;
+pub use datagram::Endpoints;
 pub use datagram::write_message;
 pub use message::Answer;
 pub use message::Message;

@@ -3,6 +3,7 @@ ghost use mathlib.Core.Path.{_≡_};
 ghost use mathlib.Core.Bool.{true};
 ghost use Prim.Native.Nat.{_+_, _≤_};
 ghost use lib.ListN.{length};
+ghost use Rattle.octets.specs.Codes.{requestListCode};
 ghost use Rattle.message.specs.Messages.{message, optionIf, addressOption, sizeOption, nameOption, given};
 ghost use Rattle.message.specs.Written.{measured, listFits};
 ghost use Rattle.message.specs.Pieces.{Wrote, Short};
@@ -11,10 +12,13 @@ use crate::options::put_given;
 use crate::options::put_last;
 use crate::options::put_who;
 use octets::MaybeNumber;
+use octets::codes::OPT_MAX_DHCP_MESSAGE_SIZE;
+use octets::codes::OPT_REQUESTED_IP;
+use octets::codes::OPT_SERVER_IDENTIFIER;
 
 // A message's fields but for the lists. A number that is missing leaves its option out, and so does a no at asks.
 pub struct Message {
-    // option 53
+    // option messageTypeCode
     pub kind: u8,
     pub id: u32,
     // the client address of the header
@@ -24,7 +28,7 @@ pub struct Message {
     pub requested: MaybeNumber,
     pub server: MaybeNumber,
     pub size: MaybeNumber,
-    // whether there is an option 55
+    // whether there is an option requestListCode
     pub asks: bool,
 }
 
@@ -70,10 +74,10 @@ fn list_fits(asks: bool, n: usize) -> bool
     true
 }
 
-// The length of option 55, where there is one.
+// The length of option requestListCode, where there is one.
 fn list_len(asks: bool, list: &[u8]) -> usize
     requires { ⌜ listFits asks (length (now list)) ≡ true ⌝ }
-    ensures { λ r. ⌜ r ≡ length (optionIf asks 55 (now (list .entry))) ⌝ }
+    ensures { λ r. ⌜ r ≡ length (optionIf asks requestListCode (now (list .entry))) ⌝ }
 {
     if asks {
         return list.len() + 2;
@@ -81,7 +85,7 @@ fn list_len(asks: bool, list: &[u8]) -> usize
     0
 }
 
-// The length of option 12, none where the name is empty.
+// The length of option hostNameCode, none where the name is empty.
 fn name_len(name: &[u8]) -> usize
     requires { ⌜ length (now name) ≤ 63 ⌝ }
     ensures { λ r. ⌜ r ≡ length (nameOption (now (name .entry))) ⌝ }
@@ -131,7 +135,9 @@ fn total(m: Message, name: &[u8], list: &[u8], extra: &[u8]) -> usize
 fn given_len(requested: MaybeNumber, server: MaybeNumber, size: MaybeNumber) -> usize
     ensures { λ r. ⌜ (r ≡ length (given requested server size)) × (r ≤ 16) ⌝ }
 {
-    address_len(50, requested) + address_len(54, server) + size_len(57, size)
+    address_len(OPT_REQUESTED_IP, requested)
+        + address_len(OPT_SERVER_IDENTIFIER, server)
+        + size_len(OPT_MAX_DHCP_MESSAGE_SIZE, size)
 }
 
 // A message at `at` of buf.

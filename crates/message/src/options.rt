@@ -4,6 +4,7 @@ ghost use mathlib.Core.Bool.{true};
 ghost use mathlib.Core.List.{_∷_};
 ghost use Prim.Native.Nat.{_+_, _≤_};
 ghost use lib.ListN.{length};
+ghost use Rattle.octets.specs.Codes.{requestedCode, identifierCode, requestListCode, messageSizeCode};
 ghost use Rattle.message.specs.Messages.{optionIf, addressOption, sizeOption, nameOption, who, given};
 ghost use Rattle.message.specs.Pieces.{last, Wrote};
 use crate::put::put_address;
@@ -13,19 +14,13 @@ use crate::put::put_name;
 use crate::put::put_option;
 use crate::put::put_size;
 use octets::MaybeNumber;
-
-// Codes of the options that are written here (RFC 2132, sections 9.1 to 9.14).
-const OPT_REQUESTED_IP: u8 = 50;
-
-const OPT_DHCP_MESSAGE_TYPE: u8 = 53;
-
-const OPT_SERVER_IDENTIFIER: u8 = 54;
-
-const OPT_PARAMETER_REQUEST_LIST: u8 = 55;
-
-const OPT_MAX_DHCP_MESSAGE_SIZE: u8 = 57;
-
-const OPT_CLIENT_ID: u8 = 61;
+use octets::codes::OPT_CLIENT_ID;
+use octets::codes::OPT_DHCP_MESSAGE_TYPE;
+use octets::codes::OPT_END;
+use octets::codes::OPT_MAX_DHCP_MESSAGE_SIZE;
+use octets::codes::OPT_PARAMETER_REQUEST_LIST;
+use octets::codes::OPT_REQUESTED_IP;
+use octets::codes::OPT_SERVER_IDENTIFIER;
 
 // 1, for Ethernet, then the hardware address.
 fn client_id(hardware: [u8; 6]) -> [u8; 7]
@@ -63,9 +58,9 @@ pub(crate) fn put_given(
     server: MaybeNumber,
     size: MaybeNumber,
 ) -> usize
-    requires { ⌜ at + (length (addressOption 50 requested) + length (addressOption 54 server) + length (sizeOption 57 size)) ≤ length (now buf) ⌝ }
+    requires { ⌜ at + (length (addressOption requestedCode requested) + length (addressOption identifierCode server) + length (sizeOption messageSizeCode size)) ≤ length (now buf) ⌝ }
     ensures { λ r. ⌜ Wrote at (given requested server size) (now (buf .entry)) r (now (buf .exit)) ⌝ }
-    ensures { λ r. ⌜ r ≡ at + (length (addressOption 50 requested) + length (addressOption 54 server) + length (sizeOption 57 size)) ⌝ }
+    ensures { λ r. ⌜ r ≡ at + (length (addressOption requestedCode requested) + length (addressOption identifierCode server) + length (sizeOption messageSizeCode size)) ⌝ }
 {
     let n1 = put_address(buf, at, OPT_REQUESTED_IP, requested);
     let n2 = put_address(buf, n1, OPT_SERVER_IDENTIFIER, server);
@@ -74,11 +69,11 @@ pub(crate) fn put_given(
 
 // What is asked for: 55, where given; then the extra options, and the end mark.
 pub(crate) fn put_last(buf: &mut [u8], at: usize, asks: bool, list: &[u8], extra: &[u8]) -> usize
-    requires { ⌜ ((asks ≡ true → length (now list) ≤ 255)) × (at + (length (optionIf asks 55 (now list)) + length (now extra) + 1) ≤ length (now buf)) ⌝ }
+    requires { ⌜ ((asks ≡ true → length (now list) ≤ 255)) × (at + (length (optionIf asks requestListCode (now list)) + length (now extra) + 1) ≤ length (now buf)) ⌝ }
     ensures { λ r. ⌜ Wrote at (last asks (now (list .entry)) (now (extra .entry))) (now (buf .entry)) r (now (buf .exit)) ⌝ }
-    ensures { λ r. ⌜ r ≡ at + (length (optionIf asks 55 (now (list .entry))) + length (now (extra .entry)) + 1) ⌝ }
+    ensures { λ r. ⌜ r ≡ at + (length (optionIf asks requestListCode (now (list .entry))) + length (now (extra .entry)) + 1) ⌝ }
 {
-    let end = [255u8];
+    let end = [OPT_END];
     let n1 = put_if(buf, at, asks, OPT_PARAMETER_REQUEST_LIST, list);
     let n2 = put_bytes(buf, n1, extra);
     put_bytes(buf, n2, &end)

@@ -8,8 +8,7 @@ ghost use Rattle.octets.specs.Items.{option};
 ghost use Rattle.message.specs.Messages.{optionIf, addressOption, sizeOption, nameOption};
 ghost use Rattle.message.specs.Pieces.{Wrote};
 use octets::MaybeNumber;
-
-const OPT_HOST_NAME: u8 = 12;
+use octets::codes::OPT_HOST_NAME;
 
 // Octets as they are.
 pub(crate) fn put_bytes(buf: &mut [u8], at: usize, body: &[u8]) -> usize

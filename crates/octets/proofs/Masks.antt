@@ -7,8 +7,8 @@ use native.Mathlib.Numerals.{sub-one}
 use lib.Pow.{pow-mono}
 use lib.Dec.{eqb}
 use borrow.Author.Tests.{eq-eqb, ne-eqb}
-use Rattle.clock.specs.Choice.{if_then_else_}
-use Rattle.clock.proofs.Choices.{if-cases}
+use Rattle.choice.specs.Choice.{if_then_else_}
+use Rattle.choice.proofs.Choices.{if-cases}
 use Rattle.octets.specs.Addresses.{maskOf, lengthUpTo}
 use Rattle.octets.specs.declared.number.MaybeNumber.the-variants.{None, Some}
 

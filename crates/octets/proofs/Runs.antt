@@ -11,7 +11,7 @@ use lib.Seq.{take-at, drop-at, drop-drop, take-all}
 use lib.Dec.{eqb}
 use borrow.Author.Tests.{eq-eqb, ne-eqb, le-leb, lt-leb}
 use borrow.Rule.Slice.PartMut.{putMid}
-use Rattle.clock.specs.Choice.{if_then_else_}
+use Rattle.choice.specs.Choice.{if_then_else_}
 use Rattle.octets.specs.Runs.{sameBytes, over, placed, placedLength}
 
 -- what `&xs[a..]` is

@@ -5,7 +5,7 @@ use mathlib.Core.Bool.{Bool, true, false}
 use mathlib.Core.List.{List, [], _∷_}
 use lib.ListN.{length}
 use lib.Dec.{leb}
-use Rattle.clock.specs.Choice.{if_then_else_}
+use Rattle.choice.specs.Choice.{if_then_else_}
 
 -- The magic cookie, with which the options field of a DHCP message begins: 99, 130, 83, 99 (RFC 2131, section 3).
 abbrev pub cookie : List ℕ

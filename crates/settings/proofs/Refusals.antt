@@ -7,15 +7,16 @@ use native.Mathlib.Omega.{arith}
 use lib.ListN.{length, take, length-take}
 use lib.Dec.{leb, ltb}
 use borrow.Author.Tests.{leb-true, ltb-false, le-leb, le-ltb, not-false}
-use Rattle.clock.specs.Choice.{if_then_else_}
-use Rattle.clock.proofs.Choices.{if-true, if-false, if-cases}
+use Rattle.choice.specs.Choice.{if_then_else_}
+use Rattle.choice.proofs.Choices.{if-true, if-false, if-cases}
 use Rattle.octets.specs.Items.{wholeItems, wholeFrom}
+use Rattle.octets.specs.Codes.{maskCode, routerCode, dnsCode}
 use Rattle.octets.specs.declared.number.MaybeNumber.{MaybeNumber}
 use Rattle.octets.specs.declared.number.MaybeNumber.the-variants.{None, Some}
 use Rattle.message.specs.Messages.{message, nameOption, addressOption, sizeOption, optionIf}
 use Rattle.message.specs.Written.{nameLimit, extraLimit, measured, written, bufferAfter, listFits}
 use Rattle.message.proofs.Messages.{message-length}
-use Rattle.message.specs.declared.datagram.Route.{Route}
+use Rattle.message.specs.declared.datagram.Endpoints.{Endpoints}
 use Rattle.message.specs.declared.message.Message.{Message}
 use Rattle.message.specs.declared.message.Answer.{Answer}
 use Rattle.message.specs.declared.message.Answer.the-variants.{Length, Refused}
@@ -33,15 +34,15 @@ pub listed-list : (s : Settings) → s .listed ≡ true → listOf s ≡ take (s
 unfolding listOf
 listed-list s t = sym (if-true _ t refl)
 
-pub default-list : (s : Settings) → s .listed ≡ false → listOf s ≡ 1 ∷ 3 ∷ 6 ∷ []
+pub default-list : (s : Settings) → s .listed ≡ false → listOf s ≡ maskCode ∷ routerCode ∷ dnsCode ∷ []
 unfolding listOf
 default-list s t = sym (if-false _ t refl)
 
 -- equal lists write equal messages
-pub writes : (m : Message) (route : Route) (buffer : List ℕ) {name name′ list list′ extra extra′ buffer′ : List ℕ} {r : Answer} → name ≡ name′ → list ≡ list′ → extra ≡ extra′
-    → (r ≡ written m name list extra (length buffer)) × (buffer′ ≡ bufferAfter route m name list extra buffer)
-    → (r ≡ written m name′ list′ extra′ (length buffer)) × (buffer′ ≡ bufferAfter route m name′ list′ extra′ buffer)
-writes m route buffer b c d e = rw (sym b) (rw (sym c) (rw (sym d) e))
+pub writes : (m : Message) (ends : Endpoints) (offload : Bool) (buffer : List ℕ) {name name′ list list′ extra extra′ buffer′ : List ℕ} {r : Answer} → name ≡ name′ → list ≡ list′ → extra ≡ extra′
+    → (r ≡ written m name list extra (length buffer)) × (buffer′ ≡ bufferAfter ends offload m name list extra buffer)
+    → (r ≡ written m name′ list′ extra′ (length buffer)) × (buffer′ ≡ bufferAfter ends offload m name′ list′ extra′ buffer)
+writes m ends offload buffer b c d e = rw (sym b) (rw (sym c) (rw (sym d) e))
 
 -- counts bound the lists
 take-within : (n most : ℕ) (xs : List ℕ) → n ≤ most → length (take n xs) ≤ most
@@ -51,7 +52,7 @@ list-fits : (s : Settings) → Counted s → listFits true (length (listOf s)) �
 unfolding listFits if_then_else_ listOf
 list-fits s k = step (s .listed) refl
   where
-    step : (b : Bool) → s .listed ≡ b → leb (length (if s .listed then take (s .«list_len») (s .list) else (1 ∷ 3 ∷ 6 ∷ []))) 64 ≡ true
+    step : (b : Bool) → s .listed ≡ b → leb (length (if s .listed then take (s .«list_len») (s .list) else (maskCode ∷ routerCode ∷ dnsCode ∷ []))) 64 ≡ true
     step true t = rw t (le-leb _ _ (take-within (s .«list_len») 64 (s .list) (list-within (s .listed) (s .«list_len») (k .list) t)))
     step false t = rw t refl
 

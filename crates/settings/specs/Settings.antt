@@ -5,12 +5,15 @@ use mathlib.Core.List.{List, [], _∷_}
 use mathlib.Core.Path.{_≡_}
 use lib.ListN.{length, take, replicate}
 use lib.Dec.{ltb}
-use Rattle.clock.specs.Choice.{if_then_else_}
+use Rattle.choice.specs.Choice.{if_then_else_}
 use Rattle.clock.specs.Durations.{duration}
 use Rattle.clock.specs.Durations as durations
+use Rattle.clock.specs.Waits.{standardWaits}
 use Rattle.clock.specs.declared.duration.MaybeDuration.{MaybeDuration}
 use Rattle.clock.specs.declared.duration.MaybeDuration.the-variants as time
+use Rattle.clock.specs.declared.waits.Waits.{Waits}
 use Rattle.octets.specs.Items.{wholeItems}
+use Rattle.octets.specs.Codes.{maskCode, routerCode, dnsCode, request}
 use Rattle.octets.specs.declared.number.MaybeNumber.{MaybeNumber}
 use Rattle.octets.specs.declared.number.MaybeNumber.the-variants.{None, Some}
 use Rattle.message.specs.Messages.{message}
@@ -48,7 +51,7 @@ abbrev pub nameOf : Settings → List ℕ
 nameOf s = take (s .«name_len») (s .name)
 
 unfoldable pub listOf : Settings → List ℕ
-listOf s = if s .listed then take (s .«list_len») (s .list) else (1 ∷ 3 ∷ 6 ∷ [])
+listOf s = if s .listed then take (s .«list_len») (s .list) else (maskCode ∷ routerCode ∷ dnsCode ∷ [])
 
 abbrev pub extraOf : Settings → List ℕ
 extraOf s = take (s .«extra_len») (s .extra)
@@ -56,6 +59,10 @@ extraOf s = take (s .«extra_len») (s .extra)
 -- The maximum, if there is one.
 unfoldable pub maximumOf : Settings → MaybeDuration
 maximumOf s = if s .capped then time.Some (s .maximum) else time.None
+
+-- How long a client waits: document 01's waits, whatever the settings.
+abbrev pub waitsOf : Settings → Waits
+waitsOf s = standardWaits
 
 -- The fields of a message of such a client: option 57 is MTU − 68, and there is an option 55.
 abbrev pub messageOf : Settings → ℕ → ℕ → ℕ → MaybeNumber → MaybeNumber → Message
@@ -69,10 +76,6 @@ messageOf s kind id client requested server = record {
   size = Some (s .mtu - 68);
   asks = true;
 }
-
--- Value of option 53 (RFC 2132, section 9.6).
-abbrev pub request : ℕ
-request = 3
 
 -- The longest message is a Request in Requesting, which has an option 50 and an option 54: 4 octets each, whatever they
 -- say.

@@ -1,20 +1,24 @@
 // What a client is created with, and numbers 1 to 7, which refuse it.
 ghost use mathlib.Core.Path.{_≡_};
 ghost use Prim.Native.Nat.{_+_, _≤_, _-_};
-ghost use Rattle.settings.specs.Settings.{noSettings, isEthernet, messageOf, longestLength, maximumOf, nameOf, listOf, extraOf, overCap, Counted, refusalOf, listsRefusal, sizeRefusal};
+ghost use Rattle.settings.specs.Settings.{noSettings, isEthernet, messageOf, longestLength, maximumOf, nameOf, listOf, extraOf, overCap, Counted, refusalOf, listsRefusal, sizeRefusal, waitsOf};
 ghost use lib.ListN.{length};
 ghost use Rattle.octets.specs.Items.{wholeItems};
 ghost use Rattle.message.specs.Messages.{nameOption};
 ghost use Rattle.message.specs.Written.{written, bufferAfter, listFits};
 use clock::Duration;
 use clock::MaybeDuration;
+use clock::Waits;
 use message::Answer;
+use message::Endpoints;
 use message::Message;
-use message::Route;
 use message::message::EXTRA_LIMIT;
 use message::message::LIST_LIMIT;
 use message::message::NAME_LIMIT;
 use octets::MaybeNumber;
+use octets::codes::OPT_DOMAIN_NAME_SERVER;
+use octets::codes::OPT_ROUTER;
+use octets::codes::OPT_SUBNET_MASK;
 use octets::span::up_to;
 
 pub enum Medium {
@@ -55,11 +59,12 @@ const HEADERS: u16 = 28;
 
 const LONGEST_HEADERS: u16 = 68;
 
-// Subnet mask, router, DNS servers.
-const DEFAULT_PARAMETER_REQUEST_LIST: [u8; 3] = [1, 3, 6];
-
-// Value of option 53, a Request.
-pub const REQUEST: u8 = 3;
+// The codes that are requested where there is no list.
+const DEFAULT_PARAMETER_REQUEST_LIST: [u8; 3] = [
+    OPT_SUBNET_MASK,
+    OPT_ROUTER,
+    OPT_DOMAIN_NAME_SERVER,
+];
 
 impl Settings {
     // All zero.
@@ -197,8 +202,8 @@ impl Settings {
 
     // Writes a message of a client with these settings as a datagram at the start of buf, or refuses by 3, 4, 5 or 8 and
     // writes nothing.
-    pub fn write(self, m: Message, route: Route, buf: &mut [u8]) -> Answer
-        ensures { λ r. ⌜ (r ≡ written m (nameOf self) (listOf self) (extraOf self) (length (now (buf .entry)))) × (now (buf .exit) ≡ bufferAfter route m (nameOf self) (listOf self) (extraOf self) (now (buf .entry))) ⌝ }
+    pub fn write(self, m: Message, ends: Endpoints, buf: &mut [u8]) -> Answer
+        ensures { λ r. ⌜ (r ≡ written m (nameOf self) (listOf self) (extraOf self) (length (now (buf .entry)))) × (now (buf .exit) ≡ bufferAfter ends (self .offload) m (nameOf self) (listOf self) (extraOf self) (now (buf .entry))) ⌝ }
     {
         let name = self.name;
         let n = self.name_len;
@@ -209,7 +214,8 @@ impl Settings {
             let k = self.list_len;
             return message::write_message(
                 buf,
-                route,
+                ends,
+                self.offload,
                 m,
                 up_to(&name, n),
                 up_to(&list, k),
@@ -217,7 +223,15 @@ impl Settings {
             );
         }
         let list = DEFAULT_PARAMETER_REQUEST_LIST;
-        message::write_message(buf, route, m, up_to(&name, n), &list, up_to(&extra, e))
+        message::write_message(
+            buf,
+            ends,
+            self.offload,
+            m,
+            up_to(&name, n),
+            &list,
+            up_to(&extra, e),
+        )
     }
 
     // The fields of such a message, which says how long a message the client takes, and asks for options.
@@ -253,6 +267,13 @@ impl Settings {
             return 0;
         }
         (self.mtu - LONGEST_HEADERS) as u32
+    }
+
+    // How long a client with these settings waits.
+    pub fn waits(self) -> Waits
+        ensures { λ r. ⌜ r ≡ waitsOf self ⌝ }
+    {
+        Waits::standard()
     }
 
     // The longest lease, if there is such a limit.

@@ -5,7 +5,7 @@ use mathlib.Core.Path.{_≡_, refl, ap, _∙_}
 use mathlib.Core.Bool.{Bool, true, false, not, _||_}
 use mathlib.Core.List.{List, [], _∷_, _++_, append-nil}
 use borrow.Author.Tests.{not-false}
-use Rattle.clock.proofs.Choices.{if-cases, both-true}
+use Rattle.choice.proofs.Choices.{if-cases, both-true}
 use Rattle.octets.specs.Addresses.{unicast}
 use Rattle.tables.specs.Entries.{only, all, full}
 use Rattle.tables.specs.Tables.{addrsOf, routesOf, addrIsDhcp, addrIsManual, routeIsDhcp, routeIsManual, addrFits, routeFits, dhcpAddrs, otherAddrs, dhcpRoutes, otherRoutes, prefixFits, wholeTables}
@@ -13,7 +13,7 @@ use Rattle.tables.specs.Manual.{refused, changedAddrs, changedRoutes, ma
 use Rattle.tables.specs.declared.address.IfaceAddr.{IfaceAddr}
 use Rattle.tables.specs.declared.route.Route.{Route}
 use Rattle.tables.specs.declared.tables.Tables.{Tables}
-use Rattle.tables.specs.declared.manual.Outcome.the-variants.{Done, Refused}
+use Rattle.tables.specs.declared.outcome.Outcome.the-variants.{Done, Refused}
 use Rattle.tables.specs.declared.manual.Changed.{Changed}
 use Rattle.tables.proofs.Lists.{only-takes, only-passes, only-append, only-implied, only-under}
 use Rattle.tables.proofs.Made.{addrs-made, routes-made}

@@ -3,13 +3,12 @@ use Prim.Native.Nat.{ℕ}
 use mathlib.Core.Path.{_≡_, refl, ap, sym, _∙_}
 use mathlib.Core.Bool.{Bool, true, false}
 use mathlib.Core.List.{List, [], _∷_}
-use Rattle.octets.specs.Addresses.{unicast}
 use Rattle.octets.specs.declared.number.MaybeNumber.{MaybeNumber}
 use Rattle.octets.specs.declared.number.MaybeNumber.the-variants.{None, Some}
-use Rattle.clock.proofs.Choices.{if-true, if-false}
+use Rattle.choice.proofs.Choices.{if-false}
 use Rattle.tables.specs.Entries.{only, entered}
 use Rattle.tables.specs.Tables.{addrTable, routeTable, addrsOf, routesOf, addrIsManual, routeIsManual}
-use Rattle.tables.specs.Applied.{leasedAddrs, leasedRoutes, defaultRoute, appliedAddrs, appliedRoutes}
+use Rattle.tables.specs.Applied.{leasedAddrs, leasedRoutes, appliedAddrs, appliedRoutes}
 use Rattle.tables.specs.declared.address.IfaceAddr.{IfaceAddr}
 use Rattle.tables.specs.declared.address.AddrTable.{AddrTable}
 use Rattle.tables.specs.declared.route.Route.{Route}
@@ -32,7 +31,7 @@ module _ (t kept : AddrTable) (new : MaybeCidr) (same : Bool) (s : same ≡ fals
 
 module _ (t kept : RouteTable) (new : MaybeNumber) (same : Bool) (s : same ≡ false) (k : kept ≡ routeTable (only routeIsManual (routesOf t))) where
   pub router-gone : new ≡ None → kept ≡ appliedRoutes t new same
-  unfolding appliedRoutes leasedRoutes
+  unfolding appliedRoutes
   router-gone e = if-false _ s (rw e (k ∙ ap routeTable (sym (entered-none (only routeIsManual (routesOf t))))))
 
   pub router-came : (r : RouteTable) (a : ℕ) → new ≡ Some a → r ≡ routeTable (entered (routesOf kept) (leasedRoutes (Some a))) → r ≡ appliedRoutes t new same
@@ -40,12 +39,3 @@ module _ (t kept : RouteTable) (new : MaybeNumber) (same : Bool) (s : same ≡ f
   router-came r a e h =
       let out = only routeIsManual (routesOf t) in
       if-false _ s (rw e (h ∙ ap (λ (xs : List Route). routeTable (entered xs (leasedRoutes (Some a)))) (routes-of kept out k)))
-
--- the routes of a router that is unicast, and of one that is not
-pub by-unicast : (a : ℕ) → unicast a ≡ true → leasedRoutes (Some a) ≡ defaultRoute a ∷ []
-unfolding leasedRoutes
-by-unicast a h = sym (if-true _ h refl)
-
-pub by-none : (a : ℕ) → unicast a ≡ false → leasedRoutes (Some a) ≡ []
-unfolding leasedRoutes
-by-none a h = sym (if-false _ h refl)

@@ -7,7 +7,7 @@ use native.Mathlib.Omega.{arith}
 use borrow.Author.Tests.{le-leb, lt-leb}
 use mathlib.Core.Option.{none, some}
 use lib.ListN.{length, getD, getElem?}
-use Rattle.clock.proofs.Choices.{if-true, if-false}
+use Rattle.choice.proofs.Choices.{if-true, if-false}
 use Rattle.tables.specs.Entries.{only, all, any, first, places, full, lessLost, entered}
 
 module _ {A : Type 0} (test : A → Bool) (x : A) (xs : List A) where

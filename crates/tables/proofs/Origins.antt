@@ -7,8 +7,7 @@ use lib.Dec.{eqb}
 use native.Mathlib.Omega.{arith}
 use lib.ListN.{length}
 use borrow.Author.Tests.{not-true, eq-eqb, eqb-true}
-use Rattle.clock.specs.Choice.{if_then_else_}
-use Rattle.octets.specs.Addresses.{unicast}
+use Rattle.choice.specs.Choice.{if_then_else_}
 use Rattle.octets.specs.declared.number.MaybeNumber.{MaybeNumber}
 use Rattle.octets.specs.declared.number.MaybeNumber.the-variants.{None, Some}
 use Rattle.tables.specs.Entries.{only, all, lessLost, entered}
@@ -21,7 +20,6 @@ use Rattle.tables.specs.declared.apply.Installed.{Installed}
 use Rattle.tables.specs.declared.address.AddrTable.{AddrTable}
 use Rattle.tables.specs.declared.route.RouteTable.{RouteTable}
 use Rattle.tables.proofs.Lists.{only-takes, only-passes, only-append, only-implied, only-excluded, all-takes, less-lost}
-use Rattle.tables.proofs.Leases.{by-unicast, by-none}
 use Rattle.tables.proofs.Wholes.{addrs-sound, routes-sound, sound-addrs, sound-routes, sound-entered, parts-whole, whole-parts}
 use Rattle.tables.proofs.Made.{addrs-made, routes-made}
 
@@ -63,22 +61,14 @@ leased-addrs-none Absent = refl
 leased-addrs-none (Cidr a p) = only-passes addrIsManual (leasedAddr a p) [] refl
 
 leased-routes-own : (new : MaybeNumber) → only routeIsDhcp (leasedRoutes new) ≡ leasedRoutes new
-unfolding only leasedRoutes
+unfolding only
 leased-routes-own None = refl
-leased-routes-own (Some a) = step (unicast a) refl
-  where
-    step : (b : Bool) → unicast a ≡ b → only routeIsDhcp (leasedRoutes (Some a)) ≡ leasedRoutes (Some a)
-    step true h = rw (by-unicast a h) (only-takes routeIsDhcp (defaultRoute a) [] refl)
-    step false h = rw (by-none a h) refl
+leased-routes-own (Some a) = only-takes routeIsDhcp (defaultRoute a) [] refl
 
 leased-routes-none : (new : MaybeNumber) → only routeIsManual (leasedRoutes new) ≡ []
-unfolding only leasedRoutes
+unfolding only
 leased-routes-none None = refl
-leased-routes-none (Some a) = step (unicast a) refl
-  where
-    step : (b : Bool) → unicast a ≡ b → only routeIsManual (leasedRoutes (Some a)) ≡ []
-    step true h = rw (by-unicast a h) (only-passes routeIsManual (defaultRoute a) [] refl)
-    step false h = rw (by-none a h) refl
+leased-routes-none (Some a) = only-passes routeIsManual (defaultRoute a) [] refl
 
 -- what a lease does to one table
 own-addrs-leased : (t : AddrTable) (new : MaybeCidr) (same : Bool) → only addrIsDhcp (addrsOf (appliedAddrs t new same))
@@ -139,13 +129,9 @@ whole-addrs-leased t new false f h = sound-addrs (entered (only addrIsManual (ad
     one-addr (Cidr a p) = omega arith
 
 leased-routes-fit : (new : MaybeNumber) → (all routeFits (leasedRoutes new) ≡ true) × (length (leasedRoutes new) ≤ 1)
-unfolding all leasedRoutes
+unfolding all
 leased-routes-fit None = (refl, omega arith)
-leased-routes-fit (Some a) = step (unicast a) refl
-  where
-    step : (b : Bool) → unicast a ≡ b → (all routeFits (leasedRoutes (Some a)) ≡ true) × (length (leasedRoutes (Some a)) ≤ 1)
-    step true h = rw (by-unicast a h) (all-takes routeFits (defaultRoute a) [] refl, omega arith)
-    step false h = rw (by-none a h) (refl, omega arith)
+leased-routes-fit (Some a) = (all-takes routeFits (defaultRoute a) [] refl, omega arith)
 
 whole-routes-leased : (t : RouteTable) (new : MaybeNumber) (same : Bool) → wholeRoutes t ≡ true → wholeRoutes (appliedRoutes t new same) ≡ true
 unfolding appliedRoutes if_then_else_

@@ -6,7 +6,7 @@ use mathlib.Core.List.{List, [], _∷_, _++_, append-nil}
 use native.Mathlib.Omega.{arith}
 use lib.ListN.{length, length-take, length-append}
 use borrow.Author.Tests.{leb-true, leb-false, le-leb}
-use Rattle.clock.proofs.Choices.{if-true, both-true}
+use Rattle.choice.proofs.Choices.{if-true, both-true}
 use Rattle.tables.specs.Entries.{only, all, places, full, lessLost, entered}
 use Rattle.tables.specs.Tables.{addrTable, routeTable, addrsOf, routesOf, addrFits, routeFits, wholeAddrs, wholeRoutes, wholeTables}
 use Rattle.tables.specs.declared.address.IfaceAddr.{IfaceAddr}

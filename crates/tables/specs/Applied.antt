@@ -5,8 +5,7 @@ use Prim.Native.Nat.{ℕ, _+_, _%_, _^_}
 use mathlib.Core.Bool.{Bool, true, false, not, _&&_}
 use mathlib.Core.List.{List, [], _∷_}
 use lib.Dec.{eqb}
-use Rattle.clock.specs.Choice.{if_then_else_}
-use Rattle.octets.specs.Addresses.{unicast}
+use Rattle.choice.specs.Choice.{if_then_else_}
 use Rattle.octets.specs.declared.number.MaybeNumber.{MaybeNumber}
 use Rattle.octets.specs.declared.number.MaybeNumber.the-variants.{None, Some}
 use Rattle.tables.specs.Entries.{only, entered}
@@ -35,7 +34,7 @@ sameRouter None (Some b) = false
 sameRouter (Some a) None = false
 sameRouter (Some a) (Some b) = eqb a b
 
--- What a lease enters: its address, and the default route by its router. A router that is not unicast makes no route.
+-- What a lease enters: its address, and the default route by its router, which is unicast: `router` of wire gives no other.
 abbrev pub leasedAddr : ℕ → ℕ → IfaceAddr
 leasedAddr address prefix = record { address = address; prefix = prefix; dhcp = true }
 
@@ -46,9 +45,9 @@ leasedAddrs (Cidr address prefix) = leasedAddr address prefix ∷ []
 abbrev pub defaultRoute : ℕ → Route
 defaultRoute router = record { network = 0; prefix = 0; router = router; dhcp = true }
 
-unfoldable pub leasedRoutes : MaybeNumber → List Route
+abbrev pub leasedRoutes : MaybeNumber → List Route
 leasedRoutes None = []
-leasedRoutes (Some router) = if unicast router then defaultRoute router ∷ [] else []
+leasedRoutes (Some router) = defaultRoute router ∷ []
 
 -- A table after it: DHCP's entries are out, and the new one is last, if there is room; as it is where the value is the
 -- same.

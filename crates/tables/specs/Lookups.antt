@@ -4,7 +4,7 @@ use mathlib.Core.Bool.{Bool, not, _&&_}
 use mathlib.Core.Option.{Option, none, some}
 use lib.ListN.{length, getElem?}
 use lib.Dec.{eqb}
-use Rattle.clock.specs.Choice.{if_then_else_}
+use Rattle.choice.specs.Choice.{if_then_else_}
 use Rattle.tables.specs.Entries.{any, first}
 use Rattle.tables.specs.Tables.{addrsOf, routesOf, wholeTables}
 use Rattle.tables.specs.declared.address.IfaceAddr.{IfaceAddr}

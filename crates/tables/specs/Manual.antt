@@ -5,7 +5,7 @@ use Prim.Native.Nat.{ℕ}
 use mathlib.Core.Bool.{Bool, false, not, _&&_, _||_}
 use mathlib.Core.List.{List, [], _∷_, _++_}
 use lib.Dec.{eqb}
-use Rattle.clock.specs.Choice.{if_then_else_}
+use Rattle.choice.specs.Choice.{if_then_else_}
 use Rattle.octets.specs.Addresses.{unicast}
 use Rattle.tables.specs.Entries.{only, full}
 use Rattle.tables.specs.Tables.{addrTable, routeTable, addrsOf, routesOf, prefixFits, wholeTables}
@@ -14,7 +14,7 @@ use Rattle.tables.specs.declared.route.Route.{Route}
 use Rattle.tables.specs.declared.address.AddrTable.{AddrTable}
 use Rattle.tables.specs.declared.route.RouteTable.{RouteTable}
 use Rattle.tables.specs.declared.tables.Tables.{Tables}
-use Rattle.tables.specs.declared.manual.Outcome.the-variants.{Done, Refused}
+use Rattle.tables.specs.declared.outcome.Outcome.the-variants.{Done, Refused}
 use Rattle.tables.specs.declared.manual.Changed.{Changed}
 
 -- A refusal leaves the tables as they came.

@@ -4,7 +4,7 @@ use mathlib.Core.Bool.{Bool, false, not}
 use mathlib.Core.List.{List, []}
 use lib.ListN.{length, take}
 use lib.Dec.{leb}
-use Rattle.clock.specs.Choice.{if_then_else_}
+use Rattle.choice.specs.Choice.{if_then_else_}
 use Rattle.tables.specs.Entries.{only, all, places, inPlaces}
 use Rattle.tables.specs.declared.address.IfaceAddr.{IfaceAddr}
 use Rattle.tables.specs.declared.address.AddrTable.{AddrTable}

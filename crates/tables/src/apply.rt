@@ -1,9 +1,6 @@
 // What a lease that comes, changes or goes does to the tables.
 ghost use mathlib.Core.Path.{_≡_};
-ghost use Rattle.octets.specs.declared.number.MaybeNumber.the-variants.{Some};
-ghost use Rattle.tables.specs.Entries.{entered};
-ghost use Rattle.tables.specs.Tables.{routeTable, routesOf};
-ghost use Rattle.tables.specs.Applied.{sameCidr, sameRouter, leasedRoutes, applied, appliedAddrs, appliedRoutes};
+ghost use Rattle.tables.specs.Applied.{sameCidr, sameRouter, applied, appliedAddrs, appliedRoutes};
 use crate::address::AddrTable;
 use crate::address::AddrsOut;
 use crate::address::IfaceAddr;
@@ -80,7 +77,8 @@ impl AddrTable {
 }
 
 impl RouteTable {
-    // The table with a default route by a lease's router in the place of DHCP's entries; as it is where that is the same.
+    // The table with a default route by a lease's router, which is unicast, in the place of DHCP's entries; as it is where
+    // that router is the same.
     fn leased(self, new: MaybeNumber, same: bool) -> RouteTable
         ensures { λ r. ⌜ r ≡ appliedRoutes self new same ⌝ }
     {
@@ -90,24 +88,13 @@ impl RouteTable {
         let kept = self.kept(RoutesOut::Dhcp);
         match new {
             MaybeNumber::None => kept,
-            MaybeNumber::Some(router) => kept.default_by(router),
+            MaybeNumber::Some(router) => kept.with(Route {
+                network: 0,
+                prefix: 0,
+                router,
+                dhcp: true,
+            }),
         }
-    }
-
-    // A table just written anew with a default route by a router, if that is unicast and there is room.
-    fn default_by(self, router: u32) -> RouteTable
-        requires { ⌜ self ≡ routeTable (routesOf self) ⌝ }
-        ensures { λ r. ⌜ r ≡ routeTable (entered (routesOf self) (leasedRoutes (Some router))) ⌝ }
-    {
-        if !octets::address::x_is_unicast(router) {
-            return self;
-        }
-        self.with(Route {
-            network: 0,
-            prefix: 0,
-            router,
-            dhcp: true,
-        })
     }
 }
 

@@ -8,6 +8,7 @@ mod address;
 mod apply;
 mod lookup;
 mod manual;
+mod outcome;
 mod route;
 mod tables;
 
@@ -22,7 +23,7 @@ pub use lookup::Count;
 pub use lookup::Has;
 pub use lookup::RouteAt;
 pub use manual::Changed;
-pub use manual::Outcome;
+pub use outcome::Outcome;
 pub use route::Route;
 pub use route::RouteTable;
 pub use tables::PREFIX_LIMIT;

@@ -4,18 +4,13 @@ ghost use Rattle.tables.specs.Manual.{refused, changed, admitted, addAdd
 use crate::address::AddrTable;
 use crate::address::AddrsOut;
 use crate::address::IfaceAddr;
+use crate::outcome::Outcome;
 use crate::route::Route;
 use crate::route::RouteTable;
 use crate::route::RoutesOut;
 use crate::tables::PLACES;
 use crate::tables::PREFIX_LIMIT;
 use crate::tables::Tables;
-
-// What became of a manual call, or the number of the refusal.
-pub enum Outcome {
-    Done,
-    Refused(u32),
-}
 
 // The tables as they are then; as they came where the call was refused.
 pub struct Changed {

@@ -7,7 +7,7 @@ use native.Mathlib.Omega.{arith}
 use lib.ListN.{length, getD, drop, List·getD-eq-default}
 use lib.Dec.{eqb, leb}
 use borrow.Author.Tests.{eq-eqb, ne-eqb, eqb-false}
-use Rattle.clock.specs.Choice.{if_then_else_}
+use Rattle.choice.specs.Choice.{if_then_else_}
 use Rattle.trace.specs.Lines.{startsWith}
 use Rattle.trace.specs.Digits.{pairsOf}
 use Rattle.trace.specs.Numbers.{decimal, dotted, address, sizeOf}

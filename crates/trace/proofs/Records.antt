@@ -7,8 +7,8 @@ use native.Mathlib.Omega.{arith}
 use lib.Dec.{leb}
 use lib.ListN.{length, drop, set, length-append, length-drop}
 use borrow.Author.Tests.{le-leb, lt-leb}
-use Rattle.clock.proofs.Choices.{if-true, if-false}
-use Rattle.clock.specs.Choice.{if_then_else_}
+use Rattle.choice.proofs.Choices.{if-true, if-false}
+use Rattle.choice.specs.Choice.{if_then_else_}
 use Rattle.trace.specs.Forms.{Part, partsOf, taken, headPart, partSize}
 use Rattle.trace.specs.Records.{mostValues, padded, fitting, misfit, walk, recordOf}
 use Rattle.trace.specs.declared.gap.Taken.{Taken}

@@ -8,8 +8,8 @@ use lib.ListN.{length, take, drop, getD, length-append, length-drop}
 use lib.Seq.{drop-at, length-take-le, getD-take, getD-drop}
 use lib.Dec.{eqb, ltb}
 use borrow.Author.Tests.{le-leb, eq-eqb, ne-eqb, ltb-false}
-use Rattle.clock.specs.Choice.{if_then_else_}
-use Rattle.clock.proofs.Choices.{if-true}
+use Rattle.choice.specs.Choice.{if_then_else_}
+use Rattle.choice.proofs.Choices.{if-true}
 use Rattle.octets.specs.declared.number.MaybeNumber.the-variants.{Some}
 use Rattle.octets.proofs.Words.{joined32}
 use Rattle.trace.specs.Lines.{startsWith}

@@ -9,7 +9,7 @@ use lib.ListN.{length, getD, drop, length-append}
 use lib.Seq.{drop-append-seam, drop-drop}
 use lib.Dec.{ltb}
 use borrow.Author.Tests.{lt-ltb, le-ltb, le-leb, ne-eqb, ltb-true, ltb-false}
-use Rattle.clock.specs.Choice.{if_then_else_}
+use Rattle.choice.specs.Choice.{if_then_else_}
 use Rattle.octets.specs.declared.number.MaybeNumber.the-variants.{None, Some}
 use Rattle.trace.specs.Lines.{startsWith}
 use Rattle.trace.specs.Digits.{digitOf, octetOf, firstOctet, octetAt, pairsOf}

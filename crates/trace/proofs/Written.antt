@@ -9,8 +9,8 @@ use lib.ListN.{length, take, drop, getD, set, length-drop, length-set, drop-of-l
 use lib.Seq.{take-all, take-nil}
 use lib.Dec.{eqb}
 use borrow.Author.Tests.{eq-eqb, ne-eqb, le-ltb, lt-ltb}
-use Rattle.clock.specs.Choice.{if_then_else_}
-use Rattle.clock.proofs.Choices.{if-cases}
+use Rattle.choice.specs.Choice.{if_then_else_}
+use Rattle.choice.proofs.Choices.{if-cases}
 use Rattle.octets.proofs.Runs.{part-tail}
 use Rattle.trace.specs.Numbers.{dot}
 use Rattle.trace.specs.Forms.{percent, charA, charX, Part, letter, gap, partsOf, headPart, partSize}

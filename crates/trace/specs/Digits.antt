@@ -3,7 +3,7 @@ use Prim.Native.Nat.{ℕ, suc, _+_, _-_, _*_}
 use mathlib.Core.List.{List, [], _∷_}
 use lib.ListN.{drop}
 use lib.Dec.{ltb}
-use Rattle.clock.specs.Choice.{if_then_else_}
+use Rattle.choice.specs.Choice.{if_then_else_}
 use Rattle.octets.specs.declared.number.MaybeNumber.{MaybeNumber}
 use Rattle.octets.specs.declared.number.MaybeNumber.the-variants.{None, Some}
 

@@ -4,7 +4,7 @@ use mathlib.Core.Bool.{true, false}
 use mathlib.Core.List.{List, [], _∷_, _++_}
 use lib.ListN.{length, drop}
 use lib.Dec.{leb}
-use Rattle.clock.specs.Choice.{if_then_else_}
+use Rattle.choice.specs.Choice.{if_then_else_}
 use Rattle.trace.specs.Forms.{Part, partsOf, taken}
 use Rattle.trace.specs.declared.gap.Taken.the-variants.{Stopped, Letter, Value, Octets}
 use Rattle.trace.specs.declared.record.Record.{Record}

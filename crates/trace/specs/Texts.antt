@@ -5,7 +5,7 @@ use mathlib.Core.List.{List, [], _∷_, _++_}
 use mathlib.Core.Path.{_≡_}
 use lib.ListN.{length}
 use lib.Dec.{eqb, ltb}
-use Rattle.clock.specs.Choice.{if_then_else_}
+use Rattle.choice.specs.Choice.{if_then_else_}
 use Rattle.octets.specs.Words.{bytes32}
 use Rattle.trace.specs.Digits.{digitOf}
 use Rattle.trace.specs.Numbers.{dot}

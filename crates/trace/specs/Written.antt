@@ -4,7 +4,7 @@ use mathlib.Core.Path.{_≡_}
 use mathlib.Core.List.{List, [], _∷_, _++_}
 use lib.ListN.{length, take, drop, getD}
 use lib.Dec.{eqb}
-use Rattle.clock.specs.Choice.{if_then_else_}
+use Rattle.choice.specs.Choice.{if_then_else_}
 use Rattle.octets.specs.declared.number.MaybeNumber.the-variants.{Some}
 use Rattle.trace.specs.Digits.{octetAt}
 use Rattle.trace.specs.Forms.{charX, Part, letter, gap, partsOf}

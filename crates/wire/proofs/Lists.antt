@@ -5,7 +5,7 @@ use mathlib.Core.Path.{_≡_, refl, sym, ap, _∙_}
 use mathlib.Core.List.{List, [], _∷_, _++_, append-nil, append-assoc}
 use native.Mathlib.Omega.{arith}
 use lib.ListN.{length, getD, drop, set}
-use Rattle.clock.specs.Choice.{if_then_else_}
+use Rattle.choice.specs.Choice.{if_then_else_}
 use Rattle.octets.specs.Words.{word32}
 use Rattle.octets.specs.Addresses.{unicast}
 use Rattle.wire.specs.Readings.{unicastOnes, groupsOf, firstThree}

@@ -9,7 +9,7 @@ use lib.Seq.{take-append-add, length-take-le}
 use native.Mathlib.Nat.{add-zero}
 use lib.ListN.{length, getD, take, drop, length-append, length-take, length-drop, take-append-drop}
 use borrow.Author.Tests.{le-leb, lt-leb, eq-eqb, ne-eqb}
-use Rattle.clock.specs.Choice.{if_then_else_}
+use Rattle.choice.specs.Choice.{if_then_else_}
 use Rattle.octets.specs.Runs.{over, placed, placedLength}
 use Rattle.octets.specs.Items.{option, optionBytes, wholeFrom, wholeItems}
 use Rattle.octets.proofs.Runs.{placed-whole, placed-not, placed-none, over-front, over-length}

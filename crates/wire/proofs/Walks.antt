@@ -11,7 +11,7 @@ use lib.ListN.{length, getD, take, drop, length-append, length-take, length-drop
 use lib.Seq.{drop-cons, getD-drop, drop-drop, take-append-seam, drop-append-seam}
 use lib.Dec.{eqb, ltb}
 use borrow.Author.Tests.{ltb-true, lt-ltb, eq-eqb, ne-eqb}
-use Rattle.clock.specs.Choice.{if_then_else_}
+use Rattle.choice.specs.Choice.{if_then_else_}
 use Rattle.octets.specs.Items.{option}
 use Rattle.wire.specs.Options.{DhcpOption, headItem, optionsFrom, firstWith, optionData, dataAt, Finds}
 use Rattle.wire.specs.Readings.{lengthOf}

@@ -6,7 +6,8 @@ use mathlib.Core.Option.{Option, none, some}
 use mathlib.Core.Path.{_≡_}
 use lib.ListN.{length, getD, take, drop}
 use lib.Dec.{eqb, ltb}
-use Rattle.clock.specs.Choice.{if_then_else_}
+use Rattle.choice.specs.Choice.{if_then_else_}
+use Rattle.octets.specs.Codes.{padCode, endCode}
 use Rattle.wire.specs.declared.options.Item.{Item}
 use Rattle.wire.specs.declared.options.Item.the-variants.{Pad, End, Whole}
 use Rattle.wire.specs.declared.options.Found.{Found}
@@ -21,8 +22,8 @@ pub record DhcpOption : Type 0 where
 unfoldable pub headItem : List ℕ → Item
 headItem [] = End
 headItem (code ∷ xs) =
-    if eqb code 0 then Pad
-    else if eqb code 255 then End
+    if eqb code padCode then Pad
+    else if eqb code endCode then End
     else if ltb (getD xs 0 0) (length xs) then Whole code (getD xs 0 0)
     else End
 

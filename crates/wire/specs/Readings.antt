@@ -5,11 +5,12 @@ use mathlib.Core.List.{List, [], _∷_, _++_}
 use mathlib.Core.Option.{Option, none, some}
 use lib.ListN.{length, getD, take, drop}
 use lib.Dec.{eqb, ltb}
-use Rattle.clock.specs.Choice.{if_then_else_}
+use Rattle.choice.specs.Choice.{if_then_else_}
 use Rattle.octets.specs.Words.{word32, word32At}
 use Rattle.octets.specs.Addresses.{unicast}
 use Rattle.octets.specs.Runs.{sameBytes}
 use Rattle.octets.specs.Items.{cookie}
+use Rattle.octets.specs.Codes.{routerCode, messageTypeCode}
 use Rattle.octets.specs.declared.number.MaybeNumber.{MaybeNumber}
 use Rattle.octets.specs.declared.number.MaybeNumber.the-variants.{None, Some}
 use Rattle.wire.specs.Options.{headerLength, optionData}
@@ -90,13 +91,7 @@ abbrev pub addressesOf : Option (List ℕ) → Addresses
 addressesOf none = firstThree []
 addressesOf (some body) = firstThree (unicastOnes (groupsOf body))
 
--- Codes of the options that have a reader of their own (RFC 2132, sections 3.5 and 9.6).
-abbrev pub routerCode : ℕ
-routerCode = 3
-
-abbrev pub messageTypeCode : ℕ
-messageTypeCode = 53
-
+-- The message type.
 abbrev pub messageType : List ℕ → MaybeNumber
 messageType reply = typeOf (optionData messageTypeCode reply)
 

@@ -2,6 +2,8 @@
 ghost use mathlib.Core.Path.{_≡_};
 ghost use lib.ListN.{drop};
 ghost use Rattle.wire.specs.Options.{headItem, Finds};
+use octets::codes::OPT_END;
+use octets::codes::OPT_PAD;
 
 // Where the options field begins: 236 octets of header and 4 of magic cookie.
 pub(crate) const OPTIONS: usize = 240;
@@ -28,10 +30,10 @@ pub(crate) fn read_item(s: &[u8], at: usize) -> Item
         return Item::End;
     }
     let code = s[at];
-    if code == 0 {
+    if code == OPT_PAD {
         return Item::Pad;
     }
-    if code == 255 {
+    if code == OPT_END {
         return Item::End;
     }
     let rest = s.len() - at - 1;

@@ -9,11 +9,8 @@ use crate::options::Found;
 use crate::options::OPTIONS;
 use crate::options::find;
 use octets::MaybeNumber;
-
-// Codes of the options with a reader of their own.
-const OPT_ROUTER: u8 = 3;
-
-const OPT_DHCP_MESSAGE_TYPE: u8 = 53;
+use octets::codes::OPT_DHCP_MESSAGE_TYPE;
+use octets::codes::OPT_ROUTER;
 
 // Opcode 2 (a reply), hardware type 1 and length 6 (Ethernet).
 const REPLY_START: [u8; 3] = [2, 1, 6];

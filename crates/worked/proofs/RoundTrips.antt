@@ -7,10 +7,11 @@ use mathlib.Core.Option.{some}
 use native.Mathlib.Omega.{arith}
 use lib.ListN.{length, length-append}
 use lib.Seq.{drop-at}
-use Rattle.clock.specs.Choice.{if_then_else_}
+use Rattle.choice.specs.Choice.{if_then_else_}
 use borrow.Author.Tests.{le-leb}
 use Rattle.octets.specs.Words.{word32At, bytes16, bytes32}
 use Rattle.octets.specs.Items.{option}
+use Rattle.octets.specs.Codes.{endCode, hostNameCode, requestedCode, messageTypeCode, identifierCode, requestListCode, messageSizeCode, clientIdCode}
 use Rattle.octets.proofs.Words.{joined32}
 use Rattle.octets.specs.declared.number.MaybeNumber.{MaybeNumber}
 use Rattle.octets.specs.declared.number.MaybeNumber.the-variants.{None, Some}
@@ -28,21 +29,21 @@ one code body r h k = walk-option code body r (λ e. omega arith) (λ e. omega a
 named : (name r : List ℕ) → optionsFrom 0 (nameOption name ++ r) ≡ nameItem name ++ optionsFrom 0 r
 unfolding nameOption
 named [] r = refl
-named (x ∷ xs) r = one 12 (x ∷ xs) r (omega arith) (omega arith)
+named (x ∷ xs) r = one hostNameCode (x ∷ xs) r (omega arith) (omega arith)
 
 addressed : (code : ℕ) (address : MaybeNumber) (r : List ℕ) → 0 < code → code < 255 → optionsFrom 0 (addressOption code address ++ r) ≡ addressItem code address ++ optionsFrom 0 r
 unfolding addressOption
 addressed code None r h k = refl
 addressed code (Some a) r h k = one code (bytes32 a) r h k
 
-sized : (size : MaybeNumber) (r : List ℕ) → optionsFrom 0 (sizeOption 57 size ++ r) ≡ sizeItem size ++ optionsFrom 0 r
+sized : (size : MaybeNumber) (r : List ℕ) → optionsFrom 0 (sizeOption messageSizeCode size ++ r) ≡ sizeItem size ++ optionsFrom 0 r
 unfolding sizeOption
 sized None r = refl
-sized (Some n) r = one 57 (bytes16 n) r (omega arith) (omega arith)
+sized (Some n) r = one messageSizeCode (bytes16 n) r (omega arith) (omega arith)
 
-listed : (asks : Bool) (list r : List ℕ) → optionsFrom 0 (optionIf asks 55 list ++ r) ≡ listItem asks list ++ optionsFrom 0 r
+listed : (asks : Bool) (list r : List ℕ) → optionsFrom 0 (optionIf asks requestListCode list ++ r) ≡ listItem asks list ++ optionsFrom 0 r
 unfolding optionIf if_then_else_
-listed true list r = one 55 list r (omega arith) (omega arith)
+listed true list r = one requestListCode list r (omega arith) (omega arith)
 listed false list r = refl
 
 flatten : (a b c d e f g x y : List ℕ) → ((a ++ (b ++ c)) ++ ((d ++ (e ++ f)) ++ (g ++ x))) ++ y ≡ a ++ (b ++ (c ++ (d ++ (e ++ (f ++ (g ++ (x ++ y)))))))
@@ -51,29 +52,29 @@ flatten a b c d e f g x y = simp append-assoc
 -- The writer's options, one behind the other, then what follows.
 abbrev row : Message → List ℕ → List ℕ → List ℕ → List ℕ
 row m name list rest =
-    option 53 (m .kind ∷ []) ++ (option 61 (1 ∷ m .hardware) ++ (nameOption name ++ (addressOption 50 (m .requested) ++ (addressOption 54 (m .server) ++ (sizeOption 57 (m .size) ++ (optionIf (m .asks) 55 list ++ rest))))))
+    option messageTypeCode (m .kind ∷ []) ++ (option clientIdCode (1 ∷ m .hardware) ++ (nameOption name ++ (addressOption requestedCode (m .requested) ++ (addressOption identifierCode (m .server) ++ (sizeOption messageSizeCode (m .size) ++ (optionIf (m .asks) requestListCode list ++ rest))))))
 
 -- All of them.
 module _ (m : Message) (name list extra : List ℕ) where
   abbrev rest : List ℕ
-  rest = extra ++ (255 ∷ [])
+  rest = extra ++ (endCode ∷ [])
 
-  told : optionsFrom 0 (addressOption 50 (m .requested) ++ (addressOption 54 (m .server) ++ (sizeOption 57 (m .size) ++ (optionIf (m .asks) 55 list ++ rest))))
-      ≡ addressItem 50 (m .requested) ++ (addressItem 54 (m .server) ++ (sizeItem (m .size) ++ (listItem (m .asks) list ++ optionsFrom 0 rest)))
+  told : optionsFrom 0 (addressOption requestedCode (m .requested) ++ (addressOption identifierCode (m .server) ++ (sizeOption messageSizeCode (m .size) ++ (optionIf (m .asks) requestListCode list ++ rest))))
+      ≡ addressItem requestedCode (m .requested) ++ (addressItem identifierCode (m .server) ++ (sizeItem (m .size) ++ (listItem (m .asks) list ++ optionsFrom 0 rest)))
   told =
-      addressed 50 (m .requested) _ (omega arith) (omega arith)
-      ∙ ap (λ (l : List DhcpOption). addressItem 50 (m .requested) ++ l)
-      (addressed 54 (m .server) _ (omega arith) (omega arith)
-      ∙ ap (λ (l : List DhcpOption). addressItem 54 (m .server) ++ l)
+      addressed requestedCode (m .requested) _ (omega arith) (omega arith)
+      ∙ ap (λ (l : List DhcpOption). addressItem requestedCode (m .requested) ++ l)
+      (addressed identifierCode (m .server) _ (omega arith) (omega arith)
+      ∙ ap (λ (l : List DhcpOption). addressItem identifierCode (m .server) ++ l)
       (sized (m .size) _ ∙ ap (λ (l : List DhcpOption). sizeItem (m .size) ++ l) (listed (m .asks) list rest)))
 
   in-row : optionsFrom 0 (row m name list rest)
       ≡ sent m name list ++ optionsFrom 0 rest
   in-row =
-      one 53 (m .kind ∷ []) _ (omega arith) (omega arith)
-      ∙ ap (λ (l : List DhcpOption). item 53 (m .kind ∷ []) ∷ l)
-      (one 61 (1 ∷ m .hardware) _ (omega arith) (omega arith)
-      ∙ ap (λ (l : List DhcpOption). item 61 (1 ∷ m .hardware) ∷ l) (named name _ ∙ ap (λ (l : List DhcpOption). nameItem name ++ l) told))
+      one messageTypeCode (m .kind ∷ []) _ (omega arith) (omega arith)
+      ∙ ap (λ (l : List DhcpOption). item messageTypeCode (m .kind ∷ []) ∷ l)
+      (one clientIdCode (1 ∷ m .hardware) _ (omega arith) (omega arith)
+      ∙ ap (λ (l : List DhcpOption). item clientIdCode (1 ∷ m .hardware) ∷ l) (named name _ ∙ ap (λ (l : List DhcpOption). nameItem name ++ l) told))
       ∙ simp append-assoc
 
   -- The options of a message that was written are those it was given, then the extra ones.
@@ -81,19 +82,19 @@ module _ (m : Message) (name list extra : List ℕ) where
   unfolding message
   round-trip six =
       let fixed : length (header (m .id) (m .client) (m .hardware)) ≡ 240 = simp length-append (omega arith) in
-      let field = drop-at (header (m .id) (m .client) (m .hardware)) (options m name list extra ++ (255 ∷ [])) 240 fixed in
-      let flat : options m name list extra ++ (255 ∷ []) ≡ row m name list (extra ++ (255 ∷ [])) =
-      flatten (option 53 (m .kind ∷ [])) (option 61 (1 ∷ m .hardware)) (nameOption name) (addressOption 50 (m .requested)) (addressOption 54 (m .server)) (sizeOption 57 (m .size)) (optionIf (m .asks) 55 list) extra (255 ∷ []) in
+      let field = drop-at (header (m .id) (m .client) (m .hardware)) (options m name list extra ++ (endCode ∷ [])) 240 fixed in
+      let flat : options m name list extra ++ (endCode ∷ []) ≡ row m name list (extra ++ (endCode ∷ [])) =
+      flatten (option messageTypeCode (m .kind ∷ [])) (option clientIdCode (1 ∷ m .hardware)) (nameOption name) (addressOption requestedCode (m .requested)) (addressOption identifierCode (m .server)) (sizeOption messageSizeCode (m .size)) (optionIf (m .asks) requestListCode list) extra (endCode ∷ []) in
       ap (optionsFrom 0) (field ∙ flat) ∙ in-row
 
   -- So the first of each code is the one it was given: the message type, and the client identifier.
   pub type-read : length (m .hardware) ≡ 6 → messageType (message m name list extra) ≡ Some (m .kind)
   unfolding firstWith if_then_else_
-  type-read six = ap (λ (os : List DhcpOption). typeOf (firstWith 53 os)) (round-trip six)
+  type-read six = ap (λ (os : List DhcpOption). typeOf (firstWith messageTypeCode os)) (round-trip six)
 
-  pub client-read : length (m .hardware) ≡ 6 → optionData 61 (message m name list extra) ≡ some (1 ∷ m .hardware)
+  pub client-read : length (m .hardware) ≡ 6 → optionData clientIdCode (message m name list extra) ≡ some (1 ∷ m .hardware)
   unfolding firstWith if_then_else_
-  client-read six = ap (firstWith 61) (round-trip six)
+  client-read six = ap (firstWith clientIdCode) (round-trip six)
 
   -- The header's id is read as it was given.
   pub id-read : m .id < 4294967296 → transactionId (message m name list extra) ≡ Some (m .id)

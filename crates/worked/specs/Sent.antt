@@ -3,6 +3,7 @@ use Prim.Native.Nat.{ℕ}
 use mathlib.Core.Bool.{Bool, true, false}
 use mathlib.Core.List.{List, [], _∷_, _++_}
 use Rattle.octets.specs.Words.{bytes16, bytes32}
+use Rattle.octets.specs.Codes.{hostNameCode, requestedCode, messageTypeCode, identifierCode, requestListCode, messageSizeCode, clientIdCode}
 use Rattle.octets.specs.declared.number.MaybeNumber.{MaybeNumber}
 use Rattle.octets.specs.declared.number.MaybeNumber.the-variants.{None, Some}
 use Rattle.wire.specs.Options.{DhcpOption}
@@ -13,7 +14,7 @@ item code body = record { code = code; body = body }
 
 abbrev pub nameItem : List ℕ → List DhcpOption
 nameItem [] = []
-nameItem (x ∷ xs) = item 12 (x ∷ xs) ∷ []
+nameItem (x ∷ xs) = item hostNameCode (x ∷ xs) ∷ []
 
 abbrev pub addressItem : ℕ → MaybeNumber → List DhcpOption
 addressItem code None = []
@@ -21,12 +22,12 @@ addressItem code (Some address) = item code (bytes32 address) ∷ []
 
 abbrev pub sizeItem : MaybeNumber → List DhcpOption
 sizeItem None = []
-sizeItem (Some size) = item 57 (bytes16 size) ∷ []
+sizeItem (Some size) = item messageSizeCode (bytes16 size) ∷ []
 
 abbrev pub listItem : Bool → List ℕ → List DhcpOption
 listItem false list = []
-listItem true list = item 55 list ∷ []
+listItem true list = item requestListCode list ∷ []
 
 abbrev pub sent : Message → List ℕ → List ℕ → List DhcpOption
 sent m name list =
-    item 53 (m .kind ∷ []) ∷ item 61 (1 ∷ m .hardware) ∷ (nameItem name ++ (addressItem 50 (m .requested) ++ (addressItem 54 (m .server) ++ (sizeItem (m .size) ++ listItem (m .asks) list))))
+    item messageTypeCode (m .kind ∷ []) ∷ item clientIdCode (1 ∷ m .hardware) ∷ (nameItem name ++ (addressItem requestedCode (m .requested) ++ (addressItem identifierCode (m .server) ++ (sizeItem (m .size) ++ listItem (m .asks) list))))

@@ -7,7 +7,7 @@ use lib.ListN.{length, getD}
 use Rattle.clock.specs.Durations.{duration}
 use Rattle.clock.specs.Moments.{plus, moment, before, due, rest, earlier}
 use Rattle.clock.specs.Waits.{standardWaits}
-use Rattle.clock.specs.Choice.{if_then_else_}
+use Rattle.choice.specs.Choice.{if_then_else_}
 use Rattle.clock.specs.Generator.{generator, drawn32, nextState, outputOf}
 use Rattle.octets.specs.Words.{word16, word32}
 use Rattle.octets.specs.Addresses.{prefixLen, lengthUpTo}
@@ -16,7 +16,7 @@ use Rattle.octets.specs.declared.number.MaybeNumber.the-variants.{None, Some}
 use Rattle.clock.specs.declared.duration.MaybeDuration.the-variants as time
 use Rattle.machine.specs.Times.{given, leaseTime, rowOf, timesOf}
 use Rattle.machine.specs.States.{renewing}
-use Rattle.machine.specs.Polling.{decided, decidedRenewing, retryAt, rebinds}
+use Rattle.machine.specs.Decisions.{decided, decidedRenewing, retryAt, rebinds}
 use Rattle.machine.specs.declared.state.ClientState.{ClientState}
 use Rattle.machine.specs.declared.times.Row.{Row}
 use Rattle.message.specs.Messages.{message, optionIf, addressOption, sizeOption, nameOption}

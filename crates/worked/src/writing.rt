@@ -3,8 +3,8 @@ use crate::line;
 use crate::octet;
 use clock::Rand;
 use message::Answer;
+use message::Endpoints;
 use message::Message;
-use message::Route;
 use message::message_len;
 use message::write_message;
 use octets::MaybeNumber;
@@ -73,11 +73,10 @@ fn requesting() -> Message {
     }
 }
 
-fn everyone(offload: bool) -> Route {
-    Route {
+fn everyone() -> Endpoints {
+    Endpoints {
         source: 0,
         destination: 0xffffffff,
-        offload,
     }
 }
 
@@ -103,7 +102,8 @@ fn longest() {
         b"as a datagram",
         write_message(
             &mut buf,
-            everyone(false),
+            everyone(),
+            false,
             requesting(),
             &name,
             &list,
@@ -152,7 +152,7 @@ fn into(asked: &[u8], buf: &mut [u8]) {
     let list = [1u8, 3, 6];
     answered(
         asked,
-        write_message(buf, everyone(false), requesting(), &[], &list, &[]),
+        write_message(buf, everyone(), false, requesting(), &[], &list, &[]),
     );
 }
 
@@ -177,13 +177,14 @@ fn full_sum() {
     let mut buf = [0u8; 300];
     answered(
         b"a Discover",
-        write_message(&mut buf, everyone(false), discover, &[], &[1, 3, 6], &[]),
+        write_message(&mut buf, everyone(), false, discover, &[], &[1, 3, 6], &[]),
     );
     field(b"its checksum, which computes to 0", &buf);
     let mut by_device = [7u8; 300];
     write_message(
         &mut by_device,
-        everyone(true),
+        everyone(),
+        true,
         discover,
         &[],
         &[1, 3, 6],
@@ -197,7 +198,8 @@ fn rest_kept() {
     let mut buf = [165u8; 300];
     write_message(
         &mut buf,
-        everyone(false),
+        everyone(),
+        false,
         requesting(),
         &[],
         &[1, 3, 6],

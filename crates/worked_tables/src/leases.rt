@@ -102,8 +102,4 @@ fn stale() {
         b"stale entries, ACK with router",
         t.dhcpv4_apply(lease(POST, 24, ROUTER), no_lease()),
     );
-    by_lease(
-        b"a router that is not unicast",
-        t.dhcpv4_apply(lease(POST, 24, 0), no_lease()),
-    );
 }

@@ -1,5 +1,5 @@
 use Rattle.machine.specs.Times.{bothRow}
-use Rattle.clock.proofs.Choices.{if-true, if-false, tests}
+use Rattle.choice.proofs.Choices.{if-true, if-false, tests}
 use mathlib.Core.Path.{refl}
 use Rattle.machine.proofs.times.both_row.Statement.{statement}
 use Rattle.machine.proofs.times.both_row.Tie as tie

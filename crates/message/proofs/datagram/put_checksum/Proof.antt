@@ -1,7 +1,7 @@
 use mathlib.Core.Path.{refl, sym, ap, _∙_}
 use lib.Seq.{length-take-le}
 use borrow.Author.Needs.{needs}
-use Rattle.clock.proofs.Choices.{if-true, if-false}
+use Rattle.choice.proofs.Choices.{if-true, if-false}
 use Rattle.octets.specs.Words.{bytes16}
 use Rattle.message.specs.Pieces.{summed}
 use Rattle.message.proofs.datagram.put_checksum.Statement.{statement}

@@ -30,7 +30,7 @@ returns : tie.Need-returns
 returns c =
     let a = c .before .before .before .before .before .before .before .before .before .before .before .before .before .before .before .before .args in
     let body = message (a .m) (a .name .now) (a .list .now) (a .extra .now) in
-    finish (a .route) body (headed _ body (omega arith) (c .before .before .before .before .before .before .before .before .before .before .put-udp .ensures) (c .before .before .before .before .before .before .put-message .ensures)) (c .before .before .put-checksum .ensures)
+    finish (a .ends) body (headed _ body (omega arith) (c .before .before .before .before .before .before .before .before .before .before .put-udp .ensures) (c .before .before .before .before .before .before .put-message .ensures)) (a .offload) (c .before .before .put-checksum .ensures)
 
 pub put-datagram-spec : {M : Type 1} → statement M
 put-datagram-spec =

@@ -30,7 +30,7 @@ returns : tie.Need-returns
 returns c =
     let a = c .before .before .before .before .before .before .before .before .before .args in
     let e = over-room (a .m) (a .name .now) (a .list .now) (a .extra .now) (sym (c .before .before .before .before .message-len .ensures) ∙ c .before .before .n .given .1) (c .if1 .taken) in
-    (sym e, sym (leaves-all (a .m) (a .name .now) (a .list .now) (a .extra .now) (a .route) (a .buf .now) e))
+    (sym e, sym (leaves-all (a .m) (a .name .now) (a .list .now) (a .extra .now) (a .ends) (a .offload) (a .buf .now) e))
 
 put-datagram-requires : tie.Need-put-datagram-requires
 put-datagram-requires c κs =
@@ -51,14 +51,14 @@ returns-2 c =
     let l = sym (c .before .before .before .before .before .before .before .before .message-len .ensures) ∙ c .before .before .before .before .before .before .n .given .1 in
     let s = short (a .m) (a .name .now) (a .list .now) (a .extra .now) l in
     let e = fits (a .m) (a .name .now) (a .list .now) (a .extra .now) l (c .before .before .before .before .if1 .left) in
-    let r : c .before .before .put-datagram .result ≡ 8 + c .before .before .before .before .before .before .n .given .0 .0 = omega (arith, datagram-length (a .route) body, s .1) in
-    (ap Length r ∙ sym e, c .before .before .put-datagram .ensures .bytes ∙ sym (leaves-datagram (a .m) (a .name .now) (a .list .now) (a .extra .now) (a .route) (a .buf .now) e))
+    let r : c .before .before .put-datagram .result ≡ 8 + c .before .before .before .before .before .before .n .given .0 .0 = omega (arith, datagram-length (a .ends) (a .offload) body, s .1) in
+    (ap Length r ∙ sym e, c .before .before .put-datagram .ensures .bytes ∙ sym (leaves-datagram (a .m) (a .name .now) (a .list .now) (a .extra .now) (a .ends) (a .offload) (a .buf .now) e))
 
 returns-3 : tie.Need-returns-3
 returns-3 c =
     let a = c .before .before .before .before .before .before .before .before .args in
     let e = refused (a .m) (a .name .now) (a .list .now) (a .extra .now) (length (a .buf .now)) (sym (c .before .before .before .message-len .ensures) ∙ c .before .number .given .1) in
-    (sym e, sym (leaves-all (a .m) (a .name .now) (a .list .now) (a .extra .now) (a .route) (a .buf .now) e))
+    (sym e, sym (leaves-all (a .m) (a .name .now) (a .list .now) (a .extra .now) (a .ends) (a .offload) (a .buf .now) e))
 
 pub write-message-spec : {M : Type 1} → statement M
 write-message-spec =

@@ -1,5 +1,5 @@
 use mathlib.Core.Path.{refl}
-use Rattle.clock.proofs.Choices.{if-true, if-false}
+use Rattle.choice.proofs.Choices.{if-true, if-false}
 use Rattle.message.specs.Written.{listFits}
 use Rattle.message.proofs.message.list_fits.Statement.{statement}
 use Rattle.message.proofs.message.list_fits.Tie as tie

@@ -1,6 +1,6 @@
 use mathlib.Core.Path.{refl}
 use borrow.Author.Needs.{needs}
-use Rattle.clock.proofs.Choices.{if-true, if-false, tests}
+use Rattle.choice.proofs.Choices.{if-true, if-false, tests}
 use Rattle.message.specs.Datagrams.{onesAdd}
 use Rattle.message.proofs.sum.add.Statement.{statement}
 use Rattle.message.proofs.sum.add.Tie as tie

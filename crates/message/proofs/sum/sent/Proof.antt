@@ -1,6 +1,6 @@
 use mathlib.Core.Path.{refl}
 use borrow.Author.Needs.{needs}
-use Rattle.clock.proofs.Choices.{if-true, if-false, tests}
+use Rattle.choice.proofs.Choices.{if-true, if-false, tests}
 use Rattle.message.specs.Datagrams.{complement}
 use Rattle.message.proofs.sum.sent.Statement.{statement}
 use Rattle.message.proofs.sum.sent.Tie as tie

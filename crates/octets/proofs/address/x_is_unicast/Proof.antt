@@ -1,5 +1,5 @@
 use mathlib.Core.Path.{refl}
-use Rattle.clock.proofs.Choices.{if-true, if-false, tests}
+use Rattle.choice.proofs.Choices.{if-true, if-false, tests}
 use Rattle.octets.specs.Addresses.{unicast}
 use Rattle.octets.proofs.address.x_is_unicast.Statement.{statement}
 use Rattle.octets.proofs.address.x_is_unicast.Tie as tie

@@ -3,7 +3,7 @@ use lib.ListN.{length}
 use native.Mathlib.Omega.{arith}
 use borrow.Author.Tests.{le-leb, lt-leb}
 use mathlib.Core.Path.{refl, ap}
-use Rattle.clock.proofs.Choices.{if-true, if-false}
+use Rattle.choice.proofs.Choices.{if-true, if-false}
 use Rattle.octets.specs.Words.{word32At}
 use Rattle.octets.specs.declared.number.MaybeNumber.the-variants.{Some}
 use borrow.Author.Needs.{needs}

@@ -1,6 +1,6 @@
 use Rattle.trace.specs.Digits.{digitOf}
 use mathlib.Core.Path.{refl}
-use Rattle.clock.proofs.Choices.{if-true, if-false, tests}
+use Rattle.choice.proofs.Choices.{if-true, if-false, tests}
 use borrow.Author.Needs.{needs}
 use Rattle.trace.proofs.digit.digit.Statement.{statement}
 use Rattle.trace.proofs.digit.digit.Tie as tie

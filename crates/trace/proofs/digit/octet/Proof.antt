@@ -4,7 +4,7 @@ use Rattle.trace.specs.Digits.{digitOf, octetOf}
 use native.Mathlib.Omega.{arith}
 use borrow.Author.Tests.{lt-ltb, le-ltb}
 use mathlib.Core.Path.{refl}
-use Rattle.clock.proofs.Choices.{if-true, if-false}
+use Rattle.choice.proofs.Choices.{if-true, if-false}
 use borrow.Author.Needs.{needs}
 use Rattle.trace.proofs.digit.octet.Statement.{statement}
 use Rattle.trace.proofs.digit.octet.Tie as tie

@@ -1,7 +1,7 @@
 use mathlib.Core.Path.{ap, _∙_}
 use Rattle.trace.specs.Forms.{gapTaken, ofNumber}
 use borrow.Author.Tests.{eq-eqb, ne-eqb}
-use Rattle.clock.proofs.Choices.{if-true, if-false}
+use Rattle.choice.proofs.Choices.{if-true, if-false}
 use borrow.Author.Needs.{needs}
 use Rattle.trace.proofs.gap.gap_taken.Statement.{statement}
 use Rattle.trace.proofs.gap.gap_taken.Tie as tie

@@ -1,6 +1,6 @@
 use mathlib.Core.Path.{refl, sym, _∙_}
 use Rattle.trace.specs.Forms.{letterTaken}
-use Rattle.clock.proofs.Choices.{if-true, if-false}
+use Rattle.choice.proofs.Choices.{if-true, if-false}
 use borrow.Author.Needs.{needs}
 use Rattle.trace.proofs.gap.letter_taken.Statement.{statement}
 use Rattle.trace.proofs.gap.letter_taken.Tie as tie

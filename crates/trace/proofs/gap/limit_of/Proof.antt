@@ -1,6 +1,6 @@
 use Rattle.trace.specs.Forms.{limitOf}
 use mathlib.Core.Path.{refl}
-use Rattle.clock.proofs.Choices.{if-true, if-false, tests}
+use Rattle.choice.proofs.Choices.{if-true, if-false, tests}
 use Rattle.trace.proofs.gap.limit_of.Statement.{statement}
 use Rattle.trace.proofs.gap.limit_of.Tie as tie
 

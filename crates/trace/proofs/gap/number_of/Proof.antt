@@ -2,7 +2,7 @@ use mathlib.Core.Path.{sym, _∙_}
 use Rattle.trace.specs.Forms.{numberOf}
 use Rattle.trace.proofs.Forms.{number-by}
 use borrow.Author.Tests.{eq-eqb}
-use Rattle.clock.proofs.Choices.{if-true}
+use Rattle.choice.proofs.Choices.{if-true}
 use borrow.Author.Needs.{needs}
 use Rattle.trace.proofs.gap.number_of.Statement.{statement}
 use Rattle.trace.proofs.gap.number_of.Tie as tie

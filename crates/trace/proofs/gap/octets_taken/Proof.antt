@@ -5,7 +5,7 @@ use Rattle.trace.specs.declared.gap.Taken.the-variants.{Octets}
 use Rattle.trace.specs.Forms.{octetsTaken}
 use Rattle.trace.specs.Digits.{pairsOf}
 use borrow.Author.Tests.{le-leb, lt-leb}
-use Rattle.clock.proofs.Choices.{if-true, if-false}
+use Rattle.choice.proofs.Choices.{if-true, if-false}
 use borrow.Author.Needs.{needs}
 use Rattle.trace.proofs.gap.octets_taken.Statement.{statement}
 use Rattle.trace.proofs.gap.octets_taken.Tie as tie

@@ -1,7 +1,7 @@
 use mathlib.Core.Path.{refl}
 use Rattle.trace.specs.Forms.{partSize}
 use borrow.Author.Tests.{eq-eqb, ne-eqb}
-use Rattle.clock.proofs.Choices.{if-true, if-false}
+use Rattle.choice.proofs.Choices.{if-true, if-false}
 use borrow.Author.Needs.{needs}
 use Rattle.trace.proofs.gap.part_len.Statement.{statement}
 use Rattle.trace.proofs.gap.part_len.Tie as tie

@@ -1,7 +1,7 @@
 use mathlib.Core.Path.{refl, sym, _∙_}
 use Rattle.trace.specs.Numbers.{decimal}
 use borrow.Author.Tests.{not-true, not-false}
-use Rattle.clock.proofs.Choices.{if-true, if-false}
+use Rattle.choice.proofs.Choices.{if-true, if-false}
 use borrow.Author.Needs.{needs}
 use Rattle.trace.proofs.number.decimal.Statement.{statement}
 use Rattle.trace.proofs.number.decimal.Tie as tie

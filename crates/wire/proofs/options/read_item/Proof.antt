@@ -1,5 +1,5 @@
 use Rattle.wire.proofs.Walks.{item-at, item-past}
-use Rattle.clock.specs.Choice.{if_then_else_}
+use Rattle.choice.specs.Choice.{if_then_else_}
 use borrow.Author.Tests.{le-ltb, lt-ltb, eq-eqb, ne-eqb}
 use lib.ListN.{length, getD}
 use Prim.Native.Nat.{_+_, _-_, _≤_, _<_}

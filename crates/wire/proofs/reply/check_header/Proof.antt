@@ -1,5 +1,5 @@
 use Rattle.wire.specs.Readings.{headerCheck}
-use Rattle.clock.proofs.Choices.{if-true, if-false}
+use Rattle.choice.proofs.Choices.{if-true, if-false}
 use native.Mathlib.Omega.{arith}
 use lib.ListN.{length-take}
 use borrow.Author.Tests.{lt-ltb, le-ltb, not-true, not-false}

@@ -1,7 +1,7 @@
 use Rattle.wire.proofs.Walks.{found, found-none, found-size}
 use Rattle.wire.specs.Readings.{secondsOf}
 use borrow.Author.Tests.{eq-eqb, ne-eqb}
-use Rattle.clock.proofs.Choices.{if-true, if-false}
+use Rattle.choice.proofs.Choices.{if-true, if-false}
 use mathlib.Core.Path.{refl, sym, ap, _∙_}
 use native.Mathlib.Omega.{arith}
 use borrow.Author.Needs.{needs}

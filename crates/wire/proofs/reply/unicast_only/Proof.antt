@@ -1,5 +1,5 @@
 use Rattle.wire.specs.Readings.{ifUnicast}
-use Rattle.clock.proofs.Choices.{if-true, if-false}
+use Rattle.choice.proofs.Choices.{if-true, if-false}
 use mathlib.Core.Path.{refl, sym, ap, _∙_}
 use borrow.Author.Needs.{needs}
 use Rattle.wire.proofs.reply.unicast_only.Statement.{statement}

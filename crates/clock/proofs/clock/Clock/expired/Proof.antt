@@ -1,6 +1,6 @@
 use mathlib.Core.Path.{refl}
 use Rattle.clock.specs.Clocks.{expiredAt}
-use Rattle.clock.proofs.Choices.{if-true, if-false}
+use Rattle.choice.proofs.Choices.{if-true, if-false}
 use borrow.Author.Needs.{needs}
 use Rattle.clock.proofs.clock.Clock.expired.Statement.{statement}
 use Rattle.clock.proofs.clock.Clock.expired.Tie as tie

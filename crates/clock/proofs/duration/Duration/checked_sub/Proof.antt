@@ -1,6 +1,6 @@
 use mathlib.Core.Path.{refl}
 use Rattle.clock.specs.Durations.{noneIf}
-use Rattle.clock.proofs.Choices.{if-true, if-false, tests}
+use Rattle.choice.proofs.Choices.{if-true, if-false, tests}
 use Rattle.clock.proofs.duration.Duration.checked_sub.Statement.{statement}
 use Rattle.clock.proofs.duration.Duration.checked_sub.Tie as tie
 

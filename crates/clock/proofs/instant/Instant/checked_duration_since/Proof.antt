@@ -1,6 +1,6 @@
 use mathlib.Core.Path.{refl}
 use Rattle.clock.specs.Durations.{noneIf}
-use Rattle.clock.proofs.Choices.{if-true, if-false}
+use Rattle.choice.proofs.Choices.{if-true, if-false}
 use borrow.Author.Needs.{needs}
 use Rattle.clock.proofs.instant.Instant.checked_duration_since.Statement.{statement}
 use Rattle.clock.proofs.instant.Instant.checked_duration_since.Tie as tie

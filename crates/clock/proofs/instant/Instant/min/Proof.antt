@@ -1,6 +1,6 @@
 use mathlib.Core.Path.{ap, refl}
 use Rattle.clock.specs.Moments.{earlier, moment}
-use Rattle.clock.proofs.Choices.{if-true, if-false}
+use Rattle.choice.proofs.Choices.{if-true, if-false}
 use borrow.Author.Needs.{needs}
 use Rattle.clock.proofs.instant.Instant.min.Statement.{statement}
 use Rattle.clock.proofs.instant.Instant.min.Tie as tie

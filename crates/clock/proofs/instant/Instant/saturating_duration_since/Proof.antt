@@ -1,7 +1,7 @@
 use mathlib.Core.Path.{ap, refl, _∙_}
 use Rattle.clock.specs.Moments.{rest}
 use Rattle.clock.specs.Durations.{duration}
-use Rattle.clock.proofs.Choices.{if-true, if-false}
+use Rattle.choice.proofs.Choices.{if-true, if-false}
 use borrow.Author.Needs.{needs}
 use Rattle.clock.proofs.instant.Instant.saturating_duration_since.Statement.{statement}
 use Rattle.clock.proofs.instant.Instant.saturating_duration_since.Tie as tie

@@ -1,12 +1,12 @@
 use mathlib.Core.Path.{refl}
 use Rattle.judge.proofs.Judging.{judged-as}
-use Rattle.machine.specs.declared.state.Awaited.the-variants.{Offer, Ack, Nak, Nothing}
+use Rattle.judge.specs.declared.awaited.Awaited.the-variants.{Offer, Ack, Nak, Nothing}
 use borrow.Author.Needs.{needs}
 use Rattle.judge.proofs.judge.Recipient.judge_kind.Statement.{statement}
 use Rattle.judge.proofs.judge.Recipient.judge_kind.Tie as tie
 
-awaited-requires : tie.Need-awaited-requires
-awaited-requires c κs = search needs
+of-requires : tie.Need-of-requires
+of-requires c κs = search needs
 
 enum-told : tie.Need-enum-told
 enum-told c = search needs
@@ -27,22 +27,22 @@ enum-told-4 : tie.Need-enum-told-4
 enum-told-4 c = search needs
 
 returns : tie.Need-returns
-returns c = judged-as _ _ _ _ _ Offer (c .before .before .before .awaited .ensures) (c .before .enum-told .given .1) (c .judge-offer .ensures)
+returns c = judged-as _ _ _ _ _ Offer (c .before .before .before .of .ensures) (c .before .enum-told .given .1) (c .judge-offer .ensures)
 
 returns-2 : tie.Need-returns-2
-returns-2 c = judged-as _ _ _ _ _ Ack (c .before .before .before .awaited .ensures) (c .before .enum-told2 .given .1) (c .judge-ack .ensures)
+returns-2 c = judged-as _ _ _ _ _ Ack (c .before .before .before .of .ensures) (c .before .enum-told2 .given .1) (c .judge-ack .ensures)
 
 returns-3 : tie.Need-returns-3
-returns-3 c = judged-as _ _ _ _ _ Nak (c .before .before .awaited .ensures) (c .enum-told3 .given .1) refl
+returns-3 c = judged-as _ _ _ _ _ Nak (c .before .before .of .ensures) (c .enum-told3 .given .1) refl
 
 returns-4 : tie.Need-returns-4
-returns-4 c = judged-as _ _ _ _ _ Nothing (c .before .before .awaited .ensures) (c .enum-told4 .given .1) refl
+returns-4 c = judged-as _ _ _ _ _ Nothing (c .before .before .of .ensures) (c .enum-told4 .given .1) refl
 
 pub judge-kind-spec : {M : Type 1} → statement M
 judge-kind-spec =
     tie.close
     (tie.spec
-    awaited-requires
+    of-requires
     enum-told
     judge-offer-requires
     enum-told-2

@@ -1,6 +1,6 @@
 use mathlib.Core.Path.{refl, sym, ap, _∙_}
 use mathlib.Core.Bool.{not}
-use Rattle.clock.proofs.Choices.{if-true, if-false}
+use Rattle.choice.proofs.Choices.{if-true, if-false}
 use Rattle.judge.proofs.Judging.{needing-none, needing-some}
 use Rattle.judge.specs.Judged.{judgedSender, isId}
 use Rattle.octets.specs.declared.number.MaybeNumber.{MaybeNumber}

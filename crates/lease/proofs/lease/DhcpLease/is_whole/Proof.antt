@@ -1,5 +1,5 @@
 use Rattle.lease.specs.Leases.{wholeLease}
-use Rattle.clock.proofs.Choices.{if-true, if-false, tests}
+use Rattle.choice.proofs.Choices.{if-true, if-false, tests}
 use mathlib.Core.Path.{refl}
 use borrow.Author.Needs.{needs}
 use Rattle.lease.proofs.lease.DhcpLease.is_whole.Statement.{statement}

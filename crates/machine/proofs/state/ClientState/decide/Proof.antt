@@ -1,4 +1,4 @@
-use Rattle.machine.specs.Polling.{decided}
+use Rattle.machine.specs.Decisions.{decided}
 use borrow.Author.Needs.{needs}
 use Rattle.machine.proofs.state.ClientState.decide.Statement.{statement}
 use Rattle.machine.proofs.state.ClientState.decide.Tie as tie

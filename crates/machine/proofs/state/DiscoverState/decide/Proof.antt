@@ -1,8 +1,8 @@
 use mathlib.Core.Path.{_∙_}
 use Rattle.clock.specs.Clocks.{clockAt, gathering}
-use Rattle.machine.specs.Polling.{decidedDiscovering}
-use Rattle.clock.proofs.Choices.{if-true, if-false}
-use Rattle.machine.proofs.Polls.{due-expired, gathered}
+use Rattle.machine.specs.Decisions.{decidedDiscovering}
+use Rattle.choice.proofs.Choices.{if-true, if-false}
+use Rattle.machine.proofs.Deadlines.{due-expired, gathered}
 use borrow.Author.Needs.{needs}
 use Rattle.machine.proofs.state.DiscoverState.decide.Statement.{statement}
 use Rattle.machine.proofs.state.DiscoverState.decide.Tie as tie

@@ -1,8 +1,8 @@
 use mathlib.Core.Path.{refl, _∙_}
 use Rattle.clock.specs.Clocks.{clockAt, gathering}
-use Rattle.machine.specs.Polling.{decidedRenewing}
-use Rattle.clock.proofs.Choices.{if-true}
-use Rattle.machine.proofs.Polls.{due-expired, gathered}
+use Rattle.machine.specs.Decisions.{decidedRenewing}
+use Rattle.choice.proofs.Choices.{if-true}
+use Rattle.machine.proofs.Deadlines.{due-expired, gathered}
 use borrow.Author.Needs.{needs}
 use Rattle.machine.proofs.state.RenewState.decide.Statement.{statement}
 use Rattle.machine.proofs.state.RenewState.decide.Tie as tie

@@ -1,5 +1,5 @@
 use mathlib.Core.Path.{sym, _∙_}
-use Rattle.machine.proofs.Polls.{nothing-due, rebind-due, renew-due}
+use Rattle.machine.proofs.Deadlines.{nothing-due, rebind-due, renew-due}
 use borrow.Author.Needs.{needs}
 use Rattle.machine.proofs.state.RenewState.decide_unexpired.Statement.{statement}
 use Rattle.machine.proofs.state.RenewState.decide_unexpired.Tie as tie

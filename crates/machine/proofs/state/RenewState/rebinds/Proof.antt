@@ -1,7 +1,7 @@
 use mathlib.Core.Path.{refl, ap}
 use mathlib.Core.Bool.{not}
-use Rattle.machine.specs.Polling.{rebinds}
-use Rattle.clock.proofs.Choices.{if-true, if-false}
+use Rattle.machine.specs.Decisions.{rebinds}
+use Rattle.choice.proofs.Choices.{if-true, if-false}
 use borrow.Author.Needs.{needs}
 use Rattle.machine.proofs.state.RenewState.rebinds.Statement.{statement}
 use Rattle.machine.proofs.state.RenewState.rebinds.Tie as tie

@@ -1,6 +1,6 @@
 use mathlib.Core.Path.{refl, ap, _∙_}
-use Rattle.machine.specs.Polling.{retryAt}
-use Rattle.clock.proofs.Choices.{if-true, if-false}
+use Rattle.machine.specs.Decisions.{retryAt}
+use Rattle.choice.proofs.Choices.{if-true, if-false}
 use Rattle.clock.specs.Moments.{moment}
 use borrow.Author.Needs.{needs}
 use Rattle.machine.proofs.state.RenewState.retry_at.Statement.{statement}

@@ -2,9 +2,9 @@ use mathlib.Core.Path.{ap, _∙_}
 use mathlib.Core.Bool.{not}
 use borrow.Author.Tests.{not-true, le-leb, lt-leb}
 use Rattle.clock.specs.Clocks.{clockAt, gathering}
-use Rattle.machine.specs.Polling.{decidedRequesting}
-use Rattle.clock.proofs.Choices.{if-true, if-false}
-use Rattle.machine.proofs.Polls.{due-expired, gathered}
+use Rattle.machine.specs.Decisions.{decidedRequesting}
+use Rattle.choice.proofs.Choices.{if-true, if-false}
+use Rattle.machine.proofs.Deadlines.{due-expired, gathered}
 use borrow.Author.Needs.{needs}
 use Rattle.machine.proofs.state.RequestState.decide.Statement.{statement}
 use Rattle.machine.proofs.state.RequestState.decide.Tie as tie

@@ -1,5 +1,5 @@
 use Rattle.settings.specs.Settings.{overCap}
-use Rattle.clock.proofs.Choices.{if-true, if-false}
+use Rattle.choice.proofs.Choices.{if-true, if-false}
 use mathlib.Core.Path.{refl}
 use Rattle.settings.proofs.settings.Settings.is_over_cap.Statement.{statement}
 use Rattle.settings.proofs.settings.Settings.is_over_cap.Tie as tie

@@ -1,5 +1,5 @@
 use Rattle.message.specs.Written.{listFits}
-use Rattle.clock.proofs.Choices.{if-true, if-false}
+use Rattle.choice.proofs.Choices.{if-true, if-false}
 use mathlib.Core.Path.{refl}
 use Rattle.settings.proofs.settings.Settings.list_fits.Statement.{statement}
 use Rattle.settings.proofs.settings.Settings.list_fits.Tie as tie

@@ -1,5 +1,5 @@
 use Rattle.settings.specs.Settings.{maximumOf}
-use Rattle.clock.proofs.Choices.{if-true, if-false}
+use Rattle.choice.proofs.Choices.{if-true, if-false}
 use mathlib.Core.Path.{refl}
 use Rattle.settings.proofs.settings.Settings.longest_lease.Statement.{statement}
 use Rattle.settings.proofs.settings.Settings.longest_lease.Tie as tie

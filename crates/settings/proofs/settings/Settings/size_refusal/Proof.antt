@@ -1,5 +1,5 @@
 use Rattle.settings.specs.Settings.{longestLength, sizeRefusal}
-use Rattle.clock.proofs.Choices.{if-true, if-false}
+use Rattle.choice.proofs.Choices.{if-true, if-false}
 use native.Mathlib.Omega.{arith}
 use borrow.Author.Tests.{lt-ltb, le-ltb}
 use mathlib.Core.Path.{refl, sym, ap, _∙_}

@@ -33,7 +33,7 @@ same-length : tie.Need-same-length
 same-length c = search needs
 
 returns : tie.Need-returns
-returns c = writes (c .before .before .before .before .before .before .before .before .before .before .before .before .before .before .before .args .m) (c .before .before .before .before .before .before .before .before .before .before .before .before .before .before .before .args .route) _ (c .before .before .before .before .before .before .before .up-to .ensures) (c .before .before .before .before .before .up-to2 .ensures ∙ sym (listed-list (c .before .before .before .before .before .before .before .before .before .before .before .before .before .before .before .args .self) (c .before .before .before .before .before .before .before .before .before .before .before .if1 .taken))) (c .before .before .before .up-to3 .ensures) (c .before .before .write-message .ensures)
+returns c = writes (c .before .before .before .before .before .before .before .before .before .before .before .before .before .before .before .args .m) (c .before .before .before .before .before .before .before .before .before .before .before .before .before .before .before .args .ends) (c .before .before .before .before .before .before .before .before .before .before .before .before .before .before .before .args .self .offload) _ (c .before .before .before .before .before .before .before .up-to .ensures) (c .before .before .before .before .before .up-to2 .ensures ∙ sym (listed-list (c .before .before .before .before .before .before .before .before .before .before .before .before .before .before .before .args .self) (c .before .before .before .before .before .before .before .before .before .before .before .if1 .taken))) (c .before .before .before .up-to3 .ensures) (c .before .before .write-message .ensures)
 
 slice-aggregate-up-to-4 : tie.Need-slice-aggregate-up-to-4
 slice-aggregate-up-to-4 c = search needs
@@ -57,7 +57,7 @@ same-length-2 : tie.Need-same-length-2
 same-length-2 c = search needs
 
 returns-2 : tie.Need-returns-2
-returns-2 c = writes (c .before .before .before .before .before .before .before .before .before .before .before .before .before .args .m) (c .before .before .before .before .before .before .before .before .before .before .before .before .before .args .route) _ (c .before .before .before .before .before .before .up-to4 .ensures) (sym (default-list (c .before .before .before .before .before .before .before .before .before .before .before .before .before .args .self) (c .before .before .before .before .before .before .before .before .before .if1 .left))) (c .before .before .before .up-to5 .ensures) (c .before .before .write-message2 .ensures)
+returns-2 c = writes (c .before .before .before .before .before .before .before .before .before .before .before .before .before .args .m) (c .before .before .before .before .before .before .before .before .before .before .before .before .before .args .ends) (c .before .before .before .before .before .before .before .before .before .before .before .before .before .args .self .offload) _ (c .before .before .before .before .before .before .up-to4 .ensures) (sym (default-list (c .before .before .before .before .before .before .before .before .before .before .before .before .before .args .self) (c .before .before .before .before .before .before .before .before .before .if1 .left))) (c .before .before .before .up-to5 .ensures) (c .before .before .write-message2 .ensures)
 
 pub write-spec : {M : Type 1} → statement M
 write-spec =

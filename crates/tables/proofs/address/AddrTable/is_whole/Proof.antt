@@ -2,7 +2,7 @@ use Rattle.tables.proofs.Loops.{Sought, sets-out, goes-on, found, ended
 use Rattle.tables.proofs.Lists.{all-takes, all-fails}
 use Rattle.tables.specs.Tables.{zeroAddr, wholeAddrs, addrFits}
 use Rattle.tables.specs.Entries.{all}
-use Rattle.clock.proofs.Choices.{if-true, if-false}
+use Rattle.choice.proofs.Choices.{if-true, if-false}
 use lib.ListN.{length, length-map}
 use mathlib.Core.Path.{_≡_, refl, sym}
 use Prim.Native.Nat.{_-_}

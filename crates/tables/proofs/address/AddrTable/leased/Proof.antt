@@ -1,7 +1,7 @@
 use Rattle.tables.proofs.Leases.{address-gone, address-came}
 use Rattle.tables.proofs.Made.{addrs-rewritten}
 use Rattle.tables.specs.Applied.{appliedAddrs}
-use Rattle.clock.proofs.Choices.{if-true}
+use Rattle.choice.proofs.Choices.{if-true}
 use mathlib.Core.Path.{refl}
 use Rattle.tables.specs.Tables.{addrIsManual, addrsOf}
 use Rattle.tables.specs.Entries.{only}

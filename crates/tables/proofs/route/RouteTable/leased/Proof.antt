@@ -1,7 +1,7 @@
 use Rattle.tables.proofs.Leases.{router-gone, router-came}
 use Rattle.tables.proofs.Made.{routes-rewritten}
 use Rattle.tables.specs.Applied.{appliedRoutes}
-use Rattle.clock.proofs.Choices.{if-true}
+use Rattle.choice.proofs.Choices.{if-true}
 use mathlib.Core.Path.{refl}
 use Rattle.tables.specs.Tables.{routeIsManual, routesOf}
 use Rattle.tables.specs.Entries.{only}
@@ -22,8 +22,8 @@ enum-told c = search needs
 enum-known-new : tie.Need-enum-known-new
 enum-known-new c = search needs
 
-default-by-requires : tie.Need-default-by-requires
-default-by-requires c κs =
+with-requires : tie.Need-with-requires
+with-requires c κs =
     routes-rewritten _ (only routeIsManual (routesOf (c .before .before .before .before .before .args .self))) (c .before .before .before .kept .ensures)
 
 returns-2 : tie.Need-returns-2
@@ -32,7 +32,7 @@ returns-2 c =
 
 returns-3 : tie.Need-returns-3
 returns-3 c =
-    router-came (c .before .before .before .before .before .before .args .self) (c .before .before .before .before .kept .result) (c .before .before .before .before .before .before .args .new) (c .before .before .before .before .before .before .args .same) (c .before .before .before .before .before .if1 .left) (c .before .before .before .before .kept .ensures) (c .default-by .result) _ (c .before .before .new .given .1) (c .default-by .ensures)
+    router-came (c .before .before .before .before .before .before .args .self) (c .before .before .before .before .kept .result) (c .before .before .before .before .before .before .args .new) (c .before .before .before .before .before .before .args .same) (c .before .before .before .before .before .if1 .left) (c .before .before .before .before .kept .ensures) (c .with .result) _ (c .before .before .new .given .1) (c .with .ensures)
 
 pub leased-spec : {M : Type 1} → statement M
 leased-spec =
@@ -42,6 +42,6 @@ leased-spec =
     kept-requires
     enum-told
     enum-known-new
-    default-by-requires
+    with-requires
     returns-2
     returns-3)

@@ -5,7 +5,7 @@ use Rattle.tables.specs.declared.address.AddrTable.{AddrTable}
 use Rattle.tables.specs.Manual.{addAddress, changed, manualAddr}
 use Rattle.tables.specs.Tables.{addrsOf}
 use Rattle.tables.specs.Entries.{only, places}
-use Rattle.clock.proofs.Choices.{if-true, if-false}
+use Rattle.choice.proofs.Choices.{if-true, if-false}
 use Prim.Native.Nat.{_<_, _≤_}
 use lib.ListN.{length}
 use borrow.Author.Tests.{le-leb, lt-leb}

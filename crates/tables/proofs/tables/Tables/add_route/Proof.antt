@@ -4,7 +4,7 @@ use Rattle.tables.specs.declared.route.Route.{Route}
 use Rattle.tables.specs.Manual.{addRoute, changed, manualRoute}
 use Rattle.tables.specs.Tables.{routesOf}
 use Rattle.tables.specs.Entries.{only, places}
-use Rattle.clock.proofs.Choices.{if-true, if-false}
+use Rattle.choice.proofs.Choices.{if-true, if-false}
 use Prim.Native.Nat.{_<_, _≤_}
 use lib.ListN.{length}
 use borrow.Author.Tests.{le-leb, lt-leb, leb-true, leb-false}

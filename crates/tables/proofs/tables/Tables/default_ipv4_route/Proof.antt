@@ -1,5 +1,5 @@
 use Rattle.tables.specs.Lookups.{defaultRouteOf}
-use Rattle.clock.proofs.Choices.{if-true, if-false}
+use Rattle.choice.proofs.Choices.{if-true, if-false}
 use mathlib.Core.Bool.{not}
 use mathlib.Core.Path.{refl, sym, ap, _∙_}
 use borrow.Author.Needs.{needs}

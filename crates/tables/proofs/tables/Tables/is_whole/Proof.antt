@@ -1,5 +1,5 @@
 use Rattle.tables.specs.Tables.{wholeTables}
-use Rattle.clock.proofs.Choices.{if-true, if-false}
+use Rattle.choice.proofs.Choices.{if-true, if-false}
 use mathlib.Core.Path.{refl, sym, _∙_}
 use borrow.Author.Needs.{needs}
 use Rattle.tables.proofs.tables.Tables.is_whole.Statement.{statement}

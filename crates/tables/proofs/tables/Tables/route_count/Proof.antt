@@ -1,6 +1,6 @@
 use Rattle.tables.specs.declared.lookup.Count.the-variants.{Entries}
 use Rattle.tables.specs.Lookups.{routeCount}
-use Rattle.clock.proofs.Choices.{if-true, if-false}
+use Rattle.choice.proofs.Choices.{if-true, if-false}
 use mathlib.Core.Bool.{not}
 use mathlib.Core.Path.{refl, sym, ap, _∙_}
 use borrow.Author.Needs.{needs}

@@ -1,6 +1,6 @@
 use Rattle.wire.proofs.Stores.{whole-over, whole-within}
 use Rattle.wire.specs.Stored.{got}
-use Rattle.clock.proofs.Choices.{if-true, if-false}
+use Rattle.choice.proofs.Choices.{if-true, if-false}
 use lib.ListN.{length-take, length}
 use lib.Seq.{length-take-le}
 use borrow.Author.Tests.{not-true, not-false}

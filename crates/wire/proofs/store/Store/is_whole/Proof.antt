@@ -1,5 +1,5 @@
 use Rattle.wire.specs.Stored.{wholeStore}
-use Rattle.clock.proofs.Choices.{if-true, if-false}
+use Rattle.choice.proofs.Choices.{if-true, if-false}
 use lib.Seq.{length-take-le}
 use borrow.Author.Tests.{le-leb, lt-leb}
 use lib.ListN.{length}

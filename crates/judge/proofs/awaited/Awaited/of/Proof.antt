@@ -1,24 +1,24 @@
 use borrow.Author.Needs.{needs}
-use Rattle.machine.proofs.state.ClientState.awaited.Statement.{statement}
-use Rattle.machine.proofs.state.ClientState.awaited.Tie as tie
+use Rattle.judge.proofs.awaited.Awaited.of.Statement.{statement}
+use Rattle.judge.proofs.awaited.Awaited.of.Tie as tie
 
 enum-told : tie.Need-enum-told
 enum-told c = search needs
 
-enum-known-self : tie.Need-enum-known-self
-enum-known-self c = search needs
+enum-known-state : tie.Need-enum-known-state
+enum-known-state c = search needs
 
 offer-alone-requires : tie.Need-offer-alone-requires
 offer-alone-requires c κs = search needs
 
-enum-known-self-2 : tie.Need-enum-known-self-2
-enum-known-self-2 c = search needs
+enum-known-state-2 : tie.Need-enum-known-state-2
+enum-known-state-2 c = search needs
 
 ack-or-nak-requires : tie.Need-ack-or-nak-requires
 ack-or-nak-requires c κs = search needs
 
-enum-known-self-3 : tie.Need-enum-known-self-3
-enum-known-self-3 c = search needs
+enum-known-state-3 : tie.Need-enum-known-state-3
+enum-known-state-3 c = search needs
 
 ack-or-nak-requires-2 : tie.Need-ack-or-nak-requires-2
 ack-or-nak-requires-2 c κs = search needs
@@ -35,16 +35,16 @@ returns-3 c = cc
 returns-4 : tie.Need-returns-4
 returns-4 c = cc
 
-pub awaited-spec : {M : Type 1} → statement M
-awaited-spec =
+pub of-spec : {M : Type 1} → statement M
+of-spec =
     tie.close
     (tie.spec
     enum-told
-    enum-known-self
+    enum-known-state
     offer-alone-requires
-    enum-known-self-2
+    enum-known-state-2
     ack-or-nak-requires
-    enum-known-self-3
+    enum-known-state-3
     ack-or-nak-requires-2
     returns
     returns-2

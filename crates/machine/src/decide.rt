@@ -5,7 +5,7 @@ ghost use mathlib.Core.List.{[], _∷_};
 ghost use Prim.Native.Nat.{_/_, _<_, max};
 ghost use Rattle.clock.specs.Durations.{duration};
 ghost use Rattle.clock.specs.Moments.{due, earlier, moment};
-ghost use Rattle.machine.specs.Polling.{waking, sends, discovers, decidedDiscovering, requestWait, requested, decidedRequesting, retryAt, rebinds, renewWait, renewed, rebindWait, rebound, decidedRenewing, decided, following};
+ghost use Rattle.machine.specs.Decisions.{waking, sends, discovers, decidedDiscovering, requestWait, requested, decidedRequesting, retryAt, rebinds, renewWait, renewed, rebindWait, rebound, decidedRenewing, decided, following};
 use crate::state::ClientState;
 use crate::state::DiscoverState;
 use crate::state::RenewState;

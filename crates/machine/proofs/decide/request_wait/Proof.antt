@@ -1,9 +1,9 @@
 use mathlib.Core.Path.{ap, _∙_}
 use Rattle.clock.specs.Durations.{duration}
-use Rattle.machine.proofs.Polls.{few-doublings, many-doublings}
+use Rattle.machine.proofs.Deadlines.{few-doublings, many-doublings}
 use borrow.Author.Needs.{needs}
-use Rattle.machine.proofs.poll.request_wait.Statement.{statement}
-use Rattle.machine.proofs.poll.request_wait.Tie as tie
+use Rattle.machine.proofs.decide.request_wait.Statement.{statement}
+use Rattle.machine.proofs.decide.request_wait.Tie as tie
 
 cast-saturating-mul : tie.Need-cast-saturating-mul
 cast-saturating-mul c = search needs

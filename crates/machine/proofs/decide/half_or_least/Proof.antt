@@ -1,7 +1,7 @@
 use mathlib.Core.Path.{_∙_}
 use borrow.Author.Needs.{needs}
-use Rattle.machine.proofs.poll.half_or_least.Statement.{statement}
-use Rattle.machine.proofs.poll.half_or_least.Tie as tie
+use Rattle.machine.proofs.decide.half_or_least.Statement.{statement}
+use Rattle.machine.proofs.decide.half_or_least.Tie as tie
 
 half-requires : tie.Need-half-requires
 half-requires c κs = search needs

@@ -6,7 +6,7 @@ use mathlib.Core.List.{[], _∷_}
 use native.Mathlib.Nat.{zero-mul, suc-mul, pow-le-pow-right}
 use native.Mathlib.Omega.{arith}
 use borrow.Author.Tests.{not-true}
-use Rattle.clock.specs.Choice.{if_then_else_}
+use Rattle.choice.specs.Choice.{if_then_else_}
 use Rattle.clock.specs.Clocks.{gathering, expiredAt}
 use Rattle.clock.specs.Durations.{clamp}
 use Rattle.clock.specs.Moments.{due, earlier, moment}
@@ -14,12 +14,12 @@ use Rattle.clock.specs.declared.clock.Clock.{Clock}
 use Rattle.clock.specs.declared.clock.Expired.{Expired}
 use Rattle.clock.specs.declared.instant.Instant.{Instant}
 use Rattle.clock.specs.declared.waits.Waits.{Waits}
-use Rattle.clock.proofs.Choices.{if-true, if-false, if-cases}
-use Rattle.machine.specs.Polling.{waking, retryAt, rebinds, renewed, rebound, decidedRenewing}
+use Rattle.choice.proofs.Choices.{if-true, if-false, if-cases}
+use Rattle.machine.specs.Decisions.{waking, retryAt, rebinds, renewed, rebound, decidedRenewing}
 use Rattle.machine.specs.declared.state.RenewState.{RenewState}
-use Rattle.machine.specs.declared.poll.Sending.the-variants.{Renew}
-use Rattle.machine.specs.declared.poll.Due.the-variants.{Nothing, Send}
-use Rattle.machine.specs.declared.poll.Decision.{Decision}
+use Rattle.machine.specs.declared.decide.Sending.the-variants.{Renew}
+use Rattle.machine.specs.declared.decide.Due.the-variants.{Nothing, Send}
+use Rattle.machine.specs.declared.decide.Decision.{Decision}
 
 module _ (k : Clock) (deadline : ℕ) {question : Expired} (asked : question ≡ expiredAt k deadline) where
   pub due-expired : due deadline (k .now .millis) ≡ question .expired

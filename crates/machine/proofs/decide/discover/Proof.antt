@@ -1,8 +1,8 @@
 use mathlib.Core.Path.{_∙_}
 use Rattle.clock.specs.Clocks.{clockAt, gathering, timerAfter}
 use borrow.Author.Needs.{needs}
-use Rattle.machine.proofs.poll.discover.Statement.{statement}
-use Rattle.machine.proofs.poll.discover.Tie as tie
+use Rattle.machine.proofs.decide.discover.Statement.{statement}
+use Rattle.machine.proofs.decide.discover.Tie as tie
 
 new-requires : tie.Need-new-requires
 new-requires c κs = search needs

@@ -1,11 +1,10 @@
 -- What a poll does, as far as the state, the waits and the moment decide it (document 01, "Polling"). Moments are the
--- Rust's, at every distance: those at exactly 2^31 ms, too, which no run from a fresh client meets. `decided`, the last
--- definition, is the whole.
+-- Rust's, at every distance: those at exactly 2^31 ms, too, which no run from a fresh client meets. `decided` is the whole.
 use Prim.Native.Nat.{ℕ, _+_, _*_, _/_, _^_, _≤_, min, max}
 use mathlib.Core.Bool.{Bool, true, false, not}
 use mathlib.Core.List.{List, [], _∷_}
 use lib.Dec.{leb}
-use Rattle.clock.specs.Choice.{if_then_else_}
+use Rattle.choice.specs.Choice.{if_then_else_}
 use Rattle.clock.specs.Durations.{clamp}
 use Rattle.clock.specs.Moments.{plus, before, due, rest, earlier, moment}
 use Rattle.clock.specs.Clocks.{day}
@@ -15,10 +14,10 @@ use Rattle.machine.specs.declared.state.ClientState.the-variants.{Init, 
 use Rattle.machine.specs.declared.state.DiscoverState.{DiscoverState}
 use Rattle.machine.specs.declared.state.RequestState.{RequestState}
 use Rattle.machine.specs.declared.state.RenewState.{RenewState}
-use Rattle.machine.specs.declared.poll.Sending.{Sending}
-use Rattle.machine.specs.declared.poll.Sending.the-variants.{Discover, Request, Renew}
-use Rattle.machine.specs.declared.poll.Due.the-variants.{Nothing, Send}
-use Rattle.machine.specs.declared.poll.Decision.{Decision}
+use Rattle.machine.specs.declared.decide.Sending.{Sending}
+use Rattle.machine.specs.declared.decide.Sending.the-variants.{Discover, Request, Renew}
+use Rattle.machine.specs.declared.decide.Due.the-variants.{Nothing, Send}
+use Rattle.machine.specs.declared.decide.Decision.{Decision}
 
 -- "The waking moment is the earliest open deadline, at most 86,400,000 ms on": deadlines are gathered in the order given.
 abbrev pub earliest : ℕ → List ℕ → ℕ

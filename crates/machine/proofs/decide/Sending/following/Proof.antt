@@ -1,7 +1,7 @@
 use mathlib.Core.Path.{refl}
 use borrow.Author.Needs.{needs}
-use Rattle.machine.proofs.poll.Sending.following.Statement.{statement}
-use Rattle.machine.proofs.poll.Sending.following.Tie as tie
+use Rattle.machine.proofs.decide.Sending.following.Statement.{statement}
+use Rattle.machine.proofs.decide.Sending.following.Tie as tie
 
 enum-known-self : tie.Need-enum-known-self
 enum-known-self c = search needs
