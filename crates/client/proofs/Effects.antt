@@ -3,20 +3,23 @@ use Prim.Native.Nat.{ℕ}
 use mathlib.Core.Path.{_≡_, refl, sym, ap, _∙_, subst}
 use mathlib.Core.Bool.{Bool, true, false, not, _&&_}
 use mathlib.Core.List.{List}
+use native.Mathlib.Omega.{arith}
 use lib.Dec.{eqb}
-use Rattle.clock.specs.Choice.{if_then_else_}
-use Rattle.clock.proofs.Choices.{if-true, if-false, if-cases, both-true}
+use Rattle.choice.specs.Choice.{if_then_else_}
+use Rattle.choice.proofs.Choices.{if-true, if-false, if-cases, both-true}
+use Rattle.clock.specs.Moments.{wrap}
 use Rattle.clock.specs.declared.instant.Instant.{Instant}
 use Rattle.clock.specs.declared.rand.Rand.{Rand}
+use Rattle.octets.specs.Codes.{offer, ack, nak}
 use Rattle.octets.specs.declared.number.MaybeNumber.the-variants.{Some}
 use Rattle.wire.specs.Readings.{messageType, router}
 use Rattle.wire.specs.Stored.{sameOptions}
-use Rattle.machine.specs.States.{hasLease, offer, ack, nak, requesting}
+use Rattle.machine.specs.States.{hasLease, requesting}
 use Rattle.machine.specs.declared.state.ClientState.{ClientState}
 use Rattle.machine.specs.declared.state.ClientState.the-variants.{Init, Discovering, Requesting, Renewing}
-use Rattle.machine.specs.declared.state.DhcpServerInfo.{DhcpServerInfo}
-use Rattle.machine.specs.declared.poll.Sending.{Sending}
-use Rattle.machine.specs.declared.poll.Sending.the-variants.{Discover, Request, Renew}
+use Rattle.machine.proofs.Timers.{Waiting, requesting as requesting-shows}
+use Rattle.machine.specs.declared.decide.Sending.{Sending}
+use Rattle.machine.specs.declared.decide.Sending.the-variants.{Discover, Request, Renew}
 use Rattle.tables.specs.Entries.{lessLost}
 use Rattle.tables.specs.Tables.{dhcpAddrs, otherAddrs, dhcpRoutes, otherRoutes}
 use Rattle.tables.specs.Applied.{sameCidr, sameRouter, leasedAddrs, leasedRoutes, applied}
@@ -25,8 +28,8 @@ use Rattle.tables.specs.declared.apply.MaybeCidr.the-variants.{Cidr}
 use Rattle.tables.specs.declared.apply.Installed.{Installed}
 use Rattle.tables.proofs.Origins.{and-true, own-addrs-applied, own-routes-applied, same-cidr, same-cidr-self, same-router, same-router-self}
 use Rattle.lease.specs.Leases.{noLease, sameTerms, sameAddresses, sameLease, installed, nothing}
-use Rattle.client.specs.Clients.{inState}
-use Rattle.client.specs.Resets.{wholeAll, cleared, wasReset}
+use Rattle.client.specs.Clients.{inState, withSession, wholeAll}
+use Rattle.client.specs.Resets.{cleared, wasReset}
 use Rattle.judge.specs.Judged.{judged}
 use Rattle.lease.specs.Bound.{boundBy}
 use Rattle.client.specs.Taken.{recipientOf, holds, heldBy, ackLease, ackedAs, acked, entered, replied, processed}
@@ -57,7 +60,7 @@ entered-applied t new old = record { addrs = own-addrs-applied t new old; routes
 
 -- What a client's lease gives.
 abbrev pub gives : Client → Installed
-gives c = heldBy (c .state) (c .lease)
+gives c = heldBy (c .session .state) (c .lease)
 
 gives-lease : (state : ClientState) (lease : DhcpLease) → hasLease state ≡ true → heldBy state lease ≡ installed lease
 unfolding heldBy
@@ -83,24 +86,24 @@ settles-by old new s e f h = record { settings = s; entries = rw (e, f) h }
 -- A reset: Init, and nothing is given.
 module _ (c : Client) (t : Tables) where
   abbrev Clears : Settled → Type 0
-  Clears s = (s .client .state ≡ Init) × Settles c t (s .client) (s .tables)
+  Clears s = (s .client .session .state ≡ Init) × Settles c t (s .client) (s .tables)
 
   cleared-settles : Clears (cleared c t)
   unfolding cleared
   cleared-settles =
-      if-cases Clears (hasLease (c .state))
-      (λ e. (refl, settles-by (installed (c .lease)) nothing refl (gives-lease (c .state) (c .lease) e) (gives-nothing Init noLease refl) (entered-applied t nothing (installed (c .lease)))))
-      (λ e. (refl, settles-by nothing nothing refl (gives-nothing (c .state) (c .lease) e) (gives-nothing Init (c .lease) refl) (entered-same t nothing)))
+      if-cases Clears (hasLease (c .session .state))
+      (λ e. (refl, settles-by (installed (c .lease)) nothing refl (gives-lease (c .session .state) (c .lease) e) (gives-nothing Init noLease refl) (entered-applied t nothing (installed (c .lease)))))
+      (λ e. (refl, settles-by nothing nothing refl (gives-nothing (c .session .state) (c .lease) e) (gives-nothing Init (c .lease) refl) (entered-same t nothing)))
 
   pub reset-settles : Settles c t (wasReset c t .client) (wasReset c t .tables)
   unfolding wasReset
   reset-settles =
       if-cases (λ (r : WasReset). Settles c t (r .client) (r .tables)) (not (wholeAll c t)) (λ e. settles-same c t) (λ e. cleared-settles .1)
 
-  pub reset-clears : wasMade (wasReset c t .outcome) ≡ true → wasReset c t .client .state ≡ Init
+  pub reset-clears : wasMade (wasReset c t .outcome) ≡ true → wasReset c t .client .session .state ≡ Init
   unfolding wasReset
   reset-clears =
-      if-cases (λ (r : WasReset). wasMade (r .outcome) ≡ true → r .client .state ≡ Init) (not (wholeAll c t)) (λ e h. cc) (λ e h. cleared-settles .0)
+      if-cases (λ (r : WasReset). wasMade (r .outcome) ≡ true → r .client .session .state ≡ Init) (not (wholeAll c t)) (λ e h. cc) (λ e h. cleared-settles .0)
 
 -- leases that are the same give the same
 last-three : (a b c d : Bool) → ((a && b) && c) && d ≡ true → (b ≡ true) × (c ≡ true) × (d ≡ true)
@@ -128,11 +131,11 @@ module _ (c : Client) (t : Tables) (bytes : List ℕ) (now : Instant) where
   -- What a reply is to the client and its tables.
   pub data Became : Processed → Type 0 where
     unmoved : {r : Processed} → wasTaken (r .outcome) ≡ false → r .client ≡ c → r .tables ≡ t → Became r
-    offered : {r : Processed} (server : DhcpServerInfo) (address : ℕ) → wasTaken (r .outcome) ≡ true → messageType bytes ≡ Some offer → hasLease (c .state) ≡ false → begun (c .state) ≡ true
-        → r .client .state ≡ requesting server address now → Became r
-    was-acked : {r : Processed} → wasTaken (r .outcome) ≡ true → messageType bytes ≡ Some ack → begun (c .state) ≡ true → r .client .state ≡ boundBy (c .settings) bytes now
+    offered : {r : Processed} → wasTaken (r .outcome) ≡ true → messageType bytes ≡ Some offer → hasLease (c .session .state) ≡ false → begun (c .session .state) ≡ true
+        → ((u : ℕ) → now .millis ≡ wrap u → Waiting u (r .client .session .state)) → Became r
+    was-acked : {r : Processed} → wasTaken (r .outcome) ≡ true → messageType bytes ≡ Some ack → begun (c .session .state) ≡ true → r .client .session .state ≡ boundBy (c .settings) bytes now
         → Given bytes (gives (r .client)) → Became r
-    was-cleared : {r : Processed} → wasTaken (r .outcome) ≡ true → messageType bytes ≡ Some nak → r .client .state ≡ Init → Became r
+    was-cleared : {r : Processed} → wasTaken (r .outcome) ≡ true → messageType bytes ≡ Some nak → r .client .session .state ≡ Init → Became r
 
   abbrev Effect : Processed → Type 0
   Effect r = Became r × Settles c t (r .client) (r .tables)
@@ -142,12 +145,12 @@ module _ (c : Client) (t : Tables) (bytes : List ℕ) (now : Instant) where
   bound s = refl
 
   abbrev Acks : Acked → Settled → Type 0
-  Acks a s = (s .client .state ≡ boundBy (c .settings) bytes now) × (gives (s .client) ≡ record { address = Cidr (a .address) (a .prefix); router = router bytes })
+  Acks a s = (s .client .session .state ≡ boundBy (c .settings) bytes now) × (gives (s .client) ≡ record { address = Cidr (a .address) (a .prefix); router = router bytes })
       × Settles c t (s .client) (s .tables)
 
   acked-settles : (a : Acked) → Acks a (acked c t bytes now a)
   unfolding acked ackedAs holds
-  acked-settles a = if-cases (Acks a) (holds (c .state) (c .lease) lease) same other
+  acked-settles a = if-cases (Acks a) (holds (c .session .state) (c .lease) lease) same other
     where
       lease : DhcpLease
       lease = ackLease c bytes a
@@ -155,22 +158,22 @@ module _ (c : Client) (t : Tables) (bytes : List ℕ) (now : Instant) where
       state : ClientState
       state = boundBy (c .settings) bytes now
 
-      same : holds (c .state) (c .lease) lease ≡ true → Acks a (record { client = inState c state; tables = t; purge = false })
+      same : holds (c .session .state) (c .lease) lease ≡ true → Acks a (record { client = withSession c (inState (c .session) state); tables = t; purge = false })
       same e =
-          let h = both-true (hasLease (c .state)) e in
+          let h = both-true (hasLease (c .session .state)) e in
           let g = gives-lease state (c .lease) (bound (c .settings)) in
-          (refl, g ∙ sym (same-gives lease (c .lease) (h .1)), settles-by (installed (c .lease)) (installed (c .lease)) refl (gives-lease (c .state) (c .lease) (h .0)) g (entered-same t (installed (c .lease))))
+          (refl, g ∙ sym (same-gives lease (c .lease) (h .1)), settles-by (installed (c .lease)) (installed (c .lease)) refl (gives-lease (c .session .state) (c .lease) (h .0)) g (entered-same t (installed (c .lease))))
 
-      other : holds (c .state) (c .lease) lease ≡ false → Acks a (entered c t state lease)
+      other : holds (c .session .state) (c .lease) lease ≡ false → Acks a (entered c t (inState (c .session) state) lease)
       other e =
           let g = gives-lease state lease (bound (c .settings)) in
           (refl, g, settles-by (gives c) (installed lease) refl refl g (entered-applied t (installed lease) (gives c)))
 
-  verdict-effect : (v : Verdict) → Says (c .state) bytes v → Effect (replied c t bytes now v)
+  verdict-effect : (v : Verdict) → Says (c .session .state) bytes v → Effect (replied c t bytes now v)
   unfolding replied
   verdict-effect (Offer o) h = (
-    offered (o .server) (o .address) refl (h .0) (h .1) (h .2) refl,
-    settles-by nothing nothing refl (gives-nothing (c .state) (c .lease) (h .1)) (gives-nothing (requesting (o .server) (o .address) now) (c .lease) refl) (entered-same t nothing),
+    offered refl (h .0) (h .1) (h .2) (λ u e. record { until = u; from = omega arith; most = omega arith; shows = requesting-shows e }),
+    settles-by nothing nothing refl (gives-nothing (c .session .state) (c .lease) (h .1)) (gives-nothing (requesting (o .server) (o .address) now) (c .lease) refl) (entered-same t nothing),
   )
   verdict-effect (Ack a) h =
       let k = acked-settles a in
@@ -189,8 +192,8 @@ module _ (c : Client) (t : Tables) (bytes : List ℕ) (now : Instant) where
 -- A message that a poll sends: a Request goes from a state without a lease, or with one, to such a state.
 abbrev pub Fitting : Client → Sending → Type 0
 Fitting c (Discover s) = Unit {0}
-Fitting c (Request s) = hasLease (c .state) ≡ false
-Fitting c (Renew s) = hasLease (c .state) ≡ true
+Fitting c (Request s) = hasLease (c .session .state) ≡ false
+Fitting c (Renew s) = hasLease (c .session .state) ≡ true
 
 module _ (c : Client) (t : Tables) (g : Rand) (buffer : List ℕ) (wake : Instant) where
   pub moved-settles : (s : Sending) → Fitting c s → Settles c t (moved c t g buffer wake s .polled .client) (moved c t g buffer wake s .polled .tables)
@@ -199,6 +202,6 @@ module _ (c : Client) (t : Tables) (g : Rand) (buffer : List ℕ) (wake : Instan
       settles-by (gives c) nothing (k .1 .settings) refl (gives-nothing (Discovering s) (cleared c t .client .lease) refl)
       (subst (Entered t (cleared c t .tables) (gives c)) (ap (λ (x : ClientState). heldBy x (cleared c t .client .lease)) (k .0) ∙ gives-nothing Init (cleared c t .client .lease) refl) (k .1 .entries))
   moved-settles (Request s) f =
-      settles-by nothing nothing refl (gives-nothing (c .state) (c .lease) f) (gives-nothing (Requesting s) (c .lease) refl) (entered-same t nothing)
+      settles-by nothing nothing refl (gives-nothing (c .session .state) (c .lease) f) (gives-nothing (Requesting s) (c .lease) refl) (entered-same t nothing)
   moved-settles (Renew s) f =
-      settles-by (installed (c .lease)) (installed (c .lease)) refl (gives-lease (c .state) (c .lease) f) (gives-lease (Renewing s) (c .lease) refl) (entered-same t (installed (c .lease)))
+      settles-by (installed (c .lease)) (installed (c .lease)) refl (gives-lease (c .session .state) (c .lease) f) (gives-lease (Renewing s) (c .lease) refl) (entered-same t (installed (c .lease)))

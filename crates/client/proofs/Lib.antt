@@ -1,7 +1,7 @@
 pub mod Made
 pub mod Settling
-pub mod Sendings
 pub mod Wholes
 pub mod Unchanged
 pub mod Effects
+pub mod Changes
 pub mod Polling

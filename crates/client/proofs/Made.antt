@@ -4,32 +4,23 @@ use mathlib.Core.Path.{_≡_, refl}
 use mathlib.Core.Bool.{Bool, false}
 use Rattle.machine.specs.declared.state.ClientState.the-variants.{Init}
 use Rattle.tables.specs.declared.lookup.Has.{Has}
-use Rattle.tables.specs.declared.tables.Tables.{Tables}
 use Rattle.settings.specs.Settings.{noSettings}
 use Rattle.lease.specs.Leases.{noLease}
-use Rattle.client.specs.Clients.{fresh, noClient, inState}
-use Rattle.client.specs.Resets.{restarted}
+use Rattle.client.specs.Clients.{fresh, noClient}
 use Rattle.client.specs.Lookups.{notHeld}
 use Rattle.settings.specs.declared.settings.Settings.{Settings}
 use Rattle.lease.specs.declared.lease.DhcpLease.{DhcpLease}
 use Rattle.client.specs.declared.client.Client.{Client}
 use Rattle.client.specs.declared.lookup.Leased.{Leased}
-use Rattle.client.specs.declared.reset.Settled.{Settled}
 
 abbrev client : Settings → Bool → DhcpLease → ℕ → Client
-client settings ignoring l id = record { settings = settings; «ignore_naks» = ignoring; state = Init; lease = l; «transaction_id» = id }
+client settings ignoring l id = record { settings = settings; «ignore_naks» = ignoring; session = record { state = Init; «transaction_id» = id }; lease = l }
 
 pub fresh-client : (settings : Settings) (ignoring : Bool) {l : DhcpLease} → l ≡ noLease → client settings ignoring l 1 ≡ fresh settings ignoring
 fresh-client settings ignoring e = rw e refl
 
 pub zero-client : {settings : Settings} {l : DhcpLease} → settings ≡ noSettings → l ≡ noLease → client settings false l 0 ≡ noClient
 zero-client e f = rw (e, f) refl
-
-abbrev settled : Client → Tables → Settled
-settled c t = record { client = c; tables = t; purge = false }
-
-pub restarted-client : (c : Client) (t : Tables) {k : Client} → k ≡ inState c Init → settled k t ≡ restarted c t
-restarted-client c t e = rw e refl
 
 abbrev leased : DhcpLease → Has → Leased
 leased l held = record { lease = l; held = held }

@@ -3,10 +3,11 @@ use Prim.Native.Nat.{ℕ}
 use mathlib.Core.Path.{_≡_, refl, sym, ap, _∙_}
 use mathlib.Core.Bool.{Bool, true, false, not, false≢true}
 use mathlib.Core.List.{List}
-use Rattle.clock.proofs.Choices.{if-cases}
+use Rattle.choice.proofs.Choices.{if-cases}
 use Rattle.clock.specs.declared.instant.Instant.{Instant}
 use Rattle.tables.specs.declared.tables.Tables.{Tables}
-use Rattle.client.specs.Resets.{wholeAll, wasReset}
+use Rattle.client.specs.Clients.{wholeAll}
+use Rattle.client.specs.Resets.{wasReset}
 use Rattle.judge.specs.Judged.{judged}
 use Rattle.client.specs.Taken.{recipientOf, replied, processed}
 use Rattle.client.specs.declared.client.Client.{Client}

@@ -1,14 +1,16 @@
 -- A whole client with whole tables stays whole, whatever call is made on it. Assumes nothing.
 use Prim.Native.Nat.{ℕ, _≤_}
 use mathlib.Core.Path.{_≡_, refl, sym, ap, _∙_}
-use mathlib.Core.Bool.{Bool, true, false, not}
+use mathlib.Core.Bool.{Bool, true, false, not, _&&_}
 use mathlib.Core.List.{List, []}
 use mathlib.Core.Option.{Option, none, some}
 use native.Mathlib.Omega.{arith}
 use lib.ListN.{length-take}
 use borrow.Author.Tests.{le-ltb, le-leb}
-use Rattle.clock.proofs.Choices.{if-true, if-false, if-cases, both-true}
+use Rattle.choice.specs.Choice.{if_then_else_}
+use Rattle.choice.proofs.Choices.{if-true, if-false, if-cases, both-true}
 use Rattle.clock.specs.declared.instant.Instant.{Instant}
+use Rattle.octets.specs.Codes.{dnsCode}
 use Rattle.octets.specs.declared.number.MaybeNumber.{MaybeNumber}
 use Rattle.octets.specs.declared.number.MaybeNumber.the-variants.{None, Some}
 use Rattle.wire.specs.Options.{optionData}
@@ -25,15 +27,16 @@ use Rattle.tables.specs.declared.tables.Tables.{Tables}
 use Rattle.tables.proofs.Origins.{whole-applied}
 use Rattle.tables.proofs.Lists.{all-takes}
 use Rattle.settings.specs.Settings.{refusalOf}
-use Rattle.lease.specs.Leases.{noLease, dnsCode, leaseOf, wholeLease, installed, nothing}
-use Rattle.client.specs.Clients.{inState, fresh, created, leaseFits, wholeOr, wholeClient}
-use Rattle.client.specs.Resets.{wholeAll, restarted, dropped, cleared, wasReset}
+use Rattle.lease.specs.Leases.{noLease, leaseOf, wholeLease, installed, nothing}
+use Rattle.client.specs.Clients.{inState, withSession, fresh, created, leaseFits, wholeOr, wholeClient, wholeAll}
+use Rattle.client.specs.Resets.{restarted, dropped, cleared, wasReset}
 use Rattle.judge.specs.Judged.{judged}
 use Rattle.judge.proofs.Judging.{Fits, judged-fits}
 use Rattle.lease.specs.Bound.{boundBy}
 use Rattle.client.specs.Taken.{recipientOf, serverOf, holds, heldBy, ackLease, ackedAs, acked, entered, offered, replied, processed}
 use Rattle.settings.specs.declared.settings.Settings.{Settings}
 use Rattle.lease.specs.declared.lease.DhcpLease.{DhcpLease}
+use Rattle.client.specs.declared.client.Session.{Session}
 use Rattle.client.specs.declared.client.Client.{Client}
 use Rattle.judge.specs.declared.judge.Acked.{Acked}
 use Rattle.judge.specs.declared.judge.Verdict.{Verdict}
@@ -57,15 +60,15 @@ pub settings-whole : (c : Client) → wholeClient c ≡ true → refusalOf (c .s
 unfolding wholeClient
 settings-whole c = step (refusalOf (c .settings))
   where
-    step : (m : MaybeNumber) → wholeOr m (leaseFits (c .state) (c .lease)) ≡ true → m ≡ None
+    step : (m : MaybeNumber) → wholeOr m (leaseFits (c .session .state) (c .lease)) ≡ true → m ≡ None
     step None h = refl
     step (Some n) h = cc
 
-pub lease-fits : (c : Client) → wholeClient c ≡ true → leaseFits (c .state) (c .lease) ≡ true
+pub lease-fits : (c : Client) → wholeClient c ≡ true → leaseFits (c .session .state) (c .lease) ≡ true
 unfolding wholeClient
 lease-fits c = step (refusalOf (c .settings))
   where
-    step : (m : MaybeNumber) → wholeOr m (leaseFits (c .state) (c .lease)) ≡ true → leaseFits (c .state) (c .lease) ≡ true
+    step : (m : MaybeNumber) → wholeOr m (leaseFits (c .session .state) (c .lease)) ≡ true → leaseFits (c .session .state) (c .lease) ≡ true
     step None h = h
     step (Some n) h = cc
 
@@ -78,7 +81,7 @@ pub read-fits : (state : ClientState) (lease : DhcpLease) → hasLease state ≡
 unfolding leaseFits
 read-fits state lease e h = sym (if-true _ e (sym h))
 
-pub parts-whole : (c : Client) → refusalOf (c .settings) ≡ None → leaseFits (c .state) (c .lease) ≡ true → wholeClient c ≡ true
+pub parts-whole : (c : Client) → refusalOf (c .settings) ≡ None → leaseFits (c .session .state) (c .lease) ≡ true → wholeClient c ≡ true
 unfolding wholeClient
 parts-whole c e h = rw e h
 
@@ -89,6 +92,16 @@ all-whole c t h k = sym (if-true false h (sym k))
 pub all-parts : (c : Client) (t : Tables) → wholeAll c t ≡ true → (wholeClient c ≡ true) × (wholeTables t ≡ true)
 unfolding wholeAll
 all-parts c t h = both-true (wholeClient c) h
+
+-- by the two tests
+both-tests : (a b : Bool) → a && b ≡ (if a then b else false)
+unfolding if_then_else_
+both-tests true b = refl
+both-tests false b = refl
+
+pub tested : (c : Client) (t : Tables) {a b : Bool} → a ≡ wholeClient c → b ≡ wholeTables t → a && b ≡ wholeAll c t
+unfolding wholeAll
+tested c t {a} {b} e f = both-tests a b ∙ ap (λ x. if x then b else false) e ∙ ap (λ x. if wholeClient c then x else false) f
 
 -- Creation returns a whole client.
 pub created-whole : (s : Settings) (ignoring : Bool) → refusalOf s ≡ None → wholeClient (created s ignoring .client) ≡ true
@@ -107,7 +120,7 @@ module _ (c : Client) (t : Tables) (h : wholeAll c t ≡ true) where
 
   pub cleared-whole : Whole (cleared c t)
   unfolding cleared all
-  cleared-whole = if-cases Whole (hasLease (c .state)) (λ e. gone) (λ e. over)
+  cleared-whole = if-cases Whole (hasLease (c .session .state)) (λ e. gone) (λ e. over)
     where
       over : Whole (restarted c t)
       over = all-whole (restarted c t .client) t (parts-whole (restarted c t .client) sound (unread-fits Init (c .lease) refl)) tables-whole
@@ -121,28 +134,31 @@ module _ (c : Client) (t : Tables) (h : wholeAll c t ≡ true) where
 
   acked-whole : (reply : List ℕ) (moment : Instant) (ack : Acked) → ack .prefix ≤ 32 → Whole (acked c t reply moment ack)
   unfolding acked ackedAs boundBy all
-  acked-whole reply moment ack p = if-cases Whole (holds (c .state) (c .lease) (ackLease c reply ack)) same other
+  acked-whole reply moment ack p = if-cases Whole (holds (c .session .state) (c .lease) (ackLease c reply ack)) same other
     where
       state : ClientState
       state = boundBy (c .settings) reply moment
+
+      session : Session
+      session = inState (c .session) state
 
       lease : DhcpLease
       lease = ackLease c reply ack
 
       fits : wholeLease lease ≡ true
-      fits = lease-whole (serverOf (c .state) (c .lease) (ack .server)) (ack .address) (ack .prefix) reply p
+      fits = lease-whole (serverOf (c .session .state) (c .lease) (ack .server)) (ack .address) (ack .prefix) reply p
 
-      same : holds (c .state) (c .lease) lease ≡ true → Whole (record { client = inState c state; tables = t; purge = false })
-      same e = all-whole (inState c state) t (parts-whole (inState c state) sound (read-fits state (c .lease) refl (held-whole (c .state) (c .lease) lease e (lease-fits c (all-parts c t h .0))))) tables-whole
+      same : holds (c .session .state) (c .lease) lease ≡ true → Whole (record { client = withSession c session; tables = t; purge = false })
+      same e = all-whole (withSession c session) t (parts-whole (withSession c session) sound (read-fits state (c .lease) refl (held-whole (c .session .state) (c .lease) lease e (lease-fits c (all-parts c t h .0))))) tables-whole
 
-      other : holds (c .state) (c .lease) lease ≡ false → Whole (entered c t state lease)
+      other : holds (c .session .state) (c .lease) lease ≡ false → Whole (entered c t session lease)
       other e =
-          all-whole (entered c t state lease .client) (entered c t state lease .tables) (parts-whole (entered c t state lease .client) sound (read-fits state lease refl fits))
-          (whole-applied t (installed lease) (heldBy (c .state) (c .lease)) (all-takes addrFits (leasedAddr (ack .address) (ack .prefix)) [] (le-leb _ _ p)) tables-whole)
+          all-whole (entered c t session lease .client) (entered c t session lease .tables) (parts-whole (entered c t session lease .client) sound (read-fits state lease refl fits))
+          (whole-applied t (installed lease) (heldBy (c .session .state) (c .lease)) (all-takes addrFits (leasedAddr (ack .address) (ack .prefix)) [] (le-leb _ _ p)) tables-whole)
 
   reply-whole : (reply : List ℕ) (moment : Instant) (v : Verdict) → Fits v → wholeAll (replied c t reply moment v .client) (replied c t reply moment v .tables) ≡ true
   unfolding replied
-  reply-whole reply moment (Offer o) f = all-whole (offered c t moment o .client) t (parts-whole (offered c t moment o .client) sound (unread-fits (offered c t moment o .client .state) (c .lease) refl)) tables-whole
+  reply-whole reply moment (Offer o) f = all-whole (offered c t moment o .client) t (parts-whole (offered c t moment o .client) sound (unread-fits (offered c t moment o .client .session .state) (c .lease) refl)) tables-whole
   reply-whole reply moment (Ack a) f = acked-whole reply moment a f
   reply-whole reply moment Nak f = cleared-whole
   reply-whole reply moment (PassedOver n) f = h

@@ -4,3 +4,4 @@ pub mod Taken
 pub mod Polls
 pub mod Changes
 pub mod Lookups
+pub mod Calls

@@ -5,88 +5,37 @@ use mathlib.Core.Bool.{Bool, true, false, not}
 use mathlib.Core.List.{List, [], _∷_}
 use lib.ListN.{length}
 use lib.Dec.{ltb}
-use Rattle.clock.specs.Choice.{if_then_else_}
-use Rattle.clock.specs.Generator.{drawn32}
+use Rattle.choice.specs.Choice.{if_then_else_}
 use Rattle.clock.specs.declared.instant.Instant.{Instant}
 use Rattle.clock.specs.declared.rand.Rand.{Rand}
 use Rattle.clock.specs.declared.rand.Drawn32.{Drawn32}
 use Rattle.clock.specs.declared.waits.Waits.{Waits}
 use Rattle.octets.specs.Runs.{over}
-use Rattle.octets.specs.declared.number.MaybeNumber.the-variants.{None, Some}
-use Rattle.message.specs.Messages.{message}
-use Rattle.message.specs.Datagrams.{datagram}
-use Rattle.message.specs.declared.datagram.Route.{Route}
-use Rattle.message.specs.declared.message.Message.{Message}
-use Rattle.machine.specs.Polling.{decided, following}
-use Rattle.machine.specs.declared.state.ClientState.{ClientState}
-use Rattle.machine.specs.declared.poll.Sending.{Sending}
-use Rattle.machine.specs.declared.poll.Sending.the-variants.{Discover, Request, Renew}
-use Rattle.machine.specs.declared.poll.Due.{Due}
-use Rattle.machine.specs.declared.poll.Due.the-variants.{Nothing, Send}
-use Rattle.machine.specs.declared.poll.Decision.{Decision}
+use Rattle.message.specs.declared.datagram.Endpoints.{Endpoints}
+use Rattle.machine.specs.Decisions.{decided, following}
+use Rattle.machine.specs.declared.decide.Sending.{Sending}
+use Rattle.machine.specs.declared.decide.Sending.the-variants.{Discover, Request, Renew}
+use Rattle.machine.specs.declared.decide.Due.{Due}
+use Rattle.machine.specs.declared.decide.Due.the-variants.{Nothing, Send}
+use Rattle.machine.specs.declared.decide.Decision.{Decision}
 use Rattle.tables.specs.declared.tables.Tables.{Tables}
-use Rattle.settings.specs.Settings.{nameOf, listOf, extraOf, messageOf, request}
-use Rattle.client.specs.Resets.{wholeAll, cleared}
+use Rattle.settings.specs.Settings.{waitsOf}
+use Rattle.sending.specs.Sendings.{idFor, drawnFor, endpointsOf, datagramFor}
+use Rattle.client.specs.Clients.{withSession, wholeAll}
+use Rattle.client.specs.Resets.{cleared}
+use Rattle.client.specs.declared.client.Session.{Session}
 use Rattle.client.specs.declared.client.Client.{Client}
 use Rattle.client.specs.declared.reset.Settled.{Settled}
 use Rattle.client.specs.declared.poll.PollAnswer.{PollAnswer}
 use Rattle.client.specs.declared.poll.PollOutcome.the-variants.{Answered, Refused}
 use Rattle.client.specs.declared.poll.Polled.{Polled}
 
--- Value of option 53 (RFC 2132, section 9.6).
-abbrev pub discover : ℕ
-discover = 1
+-- The id of the client's message, and its datagram.
+abbrev pub idOf : Client → Rand → Sending → ℕ
+idOf c g sending = idFor (c .session .«transaction_id») g sending
 
--- 0.0.0.0 and 255.255.255.255.
-abbrev pub unspecified : ℕ
-unspecified = 0
-
-abbrev pub broadcast : ℕ
-broadcast = 4294967295
-
--- Whether a message has a new transaction id: "Discover: new transaction id"; "Request in Requesting: [..] id kept";
--- "Renewing: [..] a new id and a Request".
-abbrev pub draws : Sending → Bool
-draws (Discover s) = true
-draws (Request s) = false
-draws (Renew s) = true
-
-unfoldable pub idOf : Client → Rand → Sending → ℕ
-idOf c g sending = if draws sending then drawn32 g .value else c .«transaction_id»
-
-unfoldable pub randAfter : Rand → Sending → Rand
-randAfter g sending = if draws sending then drawn32 g .rand else g
-
-abbrev pub drawnFor : Client → Rand → Sending → Drawn32
-drawnFor c g sending = record { rand = randAfter g sending; value = idOf c g sending }
-
--- The fields of a message: "50 and 54 in Requesting only"; "Renewing sets the client address".
-abbrev pub fieldsOf : Client → ℕ → Sending → Message
-fieldsOf c id (Discover s) = messageOf (c .settings) discover id unspecified None None
-fieldsOf c id (Request s) = messageOf (c .settings) request id unspecified (Some (s .«requested_ip»)) (Some (s .server .identifier))
-fieldsOf c id (Renew s) = messageOf (c .settings) request id (c .lease .address) None None
-
--- "Before rebind it goes to the OFFER's source address [..]. From rebind on it is broadcast."
-unfoldable pub renewsTo : Bool → ℕ → ℕ
-renewsTo rebinding server = if rebinding then broadcast else server
-
--- Where it goes from and to: "Discover and the Requests of Requesting go from 0.0.0.0 to 255.255.255.255, those of Renewing
--- from the lease's address."
-abbrev pub routeOf : Client → Sending → Route
-routeOf c (Discover s) = record { source = unspecified; destination = broadcast; offload = c .settings .offload }
-routeOf c (Request s) = record { source = unspecified; destination = broadcast; offload = c .settings .offload }
-routeOf c (Renew s) = record {
-  source = c .lease .address;
-  destination = renewsTo (s .rebinding) (c .lease .server .address);
-  offload = c .settings .offload;
-}
-
--- The message, and the datagram.
-abbrev pub bodyOf : Client → ℕ → Sending → List ℕ
-bodyOf c id sending = message (fieldsOf c id sending) (nameOf (c .settings)) (listOf (c .settings)) (extraOf (c .settings))
-
-unfoldable pub datagramOf : Client → Rand → Sending → List ℕ
-datagramOf c g sending = datagram (routeOf c sending) (bodyOf c (idOf c g sending) sending)
+abbrev pub datagramOf : Client → Rand → Sending → List ℕ
+datagramOf c g sending = datagramFor (c .settings) (c .lease) (idOf c g sending) sending
 
 -- The client and its tables before the message is sent: a lease that is held is dropped where the client discovers.
 abbrev pub kept : Client → Tables → Settled
@@ -97,15 +46,9 @@ madeReady c t (Discover s) = cleared c t
 madeReady c t (Request s) = kept c t
 madeReady c t (Renew s) = kept c t
 
--- The client once a message is sent: in the state that follows, with the message's id.
-abbrev pub awaiting : Client → ClientState → ℕ → Client
-awaiting c state id = record {
-  settings = c .settings;
-  «ignore_naks» = c .«ignore_naks»;
-  state = state;
-  lease = c .lease;
-  «transaction_id» = id;
-}
+-- The session once a message is sent: in the state that follows, with the message's id.
+abbrev pub awaiting : Sending → ℕ → Session
+awaiting sending id = record { state = following sending; «transaction_id» = id }
 
 -- What a poll leaves: client, tables and generator with the answer, and the buffer that it was lent.
 pub record PolledInto : Type 0 where
@@ -131,13 +74,13 @@ passedBy c t g buffer wake = record {
 
 -- A message is built: "from byte 0 of the lent buffer", and "bytes after the datagram keep their value". "An empty buffer
 -- stands for an exhausted pool: the state moves, nothing is built."
-abbrev pub built : ℕ → Route → Instant → PollAnswer
-built size route wake =
-    record { length = size; source = route .source; destination = route .destination; wake = wake; purge = false }
+abbrev pub built : ℕ → Endpoints → Instant → PollAnswer
+built size ends wake =
+    record { length = size; source = ends .source; destination = ends .destination; wake = wake; purge = false }
 
-abbrev pub builtInto : List ℕ → Route → List ℕ → Instant → PollAnswer
-builtInto [] route out wake = silent wake
-builtInto (x ∷ xs) route out wake = built (length out) route wake
+abbrev pub builtInto : List ℕ → Endpoints → List ℕ → Instant → PollAnswer
+builtInto [] ends out wake = silent wake
+builtInto (x ∷ xs) ends out wake = built (length out) ends wake
 
 abbrev pub bufferWith : List ℕ → List ℕ → List ℕ
 bufferWith [] out = []
@@ -155,7 +98,7 @@ purging answer purge = record {
 
 abbrev pub settledBy : Client → Tables → Drawn32 → Sending → PollAnswer → Polled
 settledBy c t drawn sending answer = record {
-  client = awaiting (madeReady c t sending .client) (following sending) (drawn .value);
+  client = withSession (madeReady c t sending .client) (awaiting sending (drawn .value));
   tables = madeReady c t sending .tables;
   rand = drawn .rand;
   outcome = Answered (purging answer (madeReady c t sending .purge));
@@ -163,7 +106,7 @@ settledBy c t drawn sending answer = record {
 
 abbrev pub moved : Client → Tables → Rand → List ℕ → Instant → Sending → PolledInto
 moved c t g buffer wake sending = record {
-  polled = settledBy c t (drawnFor c g sending) sending (builtInto buffer (routeOf c sending) (datagramOf c g sending) wake);
+  polled = settledBy c t (drawnFor (c .session .«transaction_id») g sending) sending (builtInto buffer (endpointsOf (c .lease) sending) (datagramOf c g sending) wake);
   buffer = bufferWith buffer (datagramOf c g sending);
 }
 
@@ -184,8 +127,12 @@ polledAs c t g buffer wake (Send sending) = sent c t g buffer wake sending
 abbrev pub polledBy : Client → Tables → Rand → List ℕ → Decision → PolledInto
 polledBy c t g buffer decision = polledAs c t g buffer (decision .wake) (decision .due)
 
--- The call: 9 first.
-unfoldable pub polled : Waits → Client → Tables → Rand → Instant → List ℕ → PolledInto
-polled w c t g now buffer =
+-- The call with any waits: 9 first.
+unfoldable pub polledWith : Waits → Client → Tables → Rand → Instant → List ℕ → PolledInto
+polledWith w c t g now buffer =
     if not (wholeAll c t) then refusedBy c t g buffer 9
-    else polledBy c t g buffer (decided w (c .state) (now .millis))
+    else polledBy c t g buffer (decided w (c .session .state) (now .millis))
+
+-- The call, with the client's own waits.
+abbrev pub polled : Client → Tables → Rand → Instant → List ℕ → PolledInto
+polled c t g now buffer = polledWith (waitsOf (c .settings)) c t g now buffer

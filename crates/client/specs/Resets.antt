@@ -1,36 +1,31 @@
 -- Resets (document 01): the lease is dropped, if one is held, and the client starts over.
-use mathlib.Core.Bool.{Bool, false, not}
-use Rattle.clock.specs.Choice.{if_then_else_}
+use mathlib.Core.Bool.{false, not}
+use Rattle.choice.specs.Choice.{if_then_else_}
 use Rattle.machine.specs.States.{hasLease}
 use Rattle.machine.specs.declared.state.ClientState.the-variants.{Init}
-use Rattle.tables.specs.Tables.{wholeTables}
 use Rattle.tables.specs.Applied.{applied}
 use Rattle.tables.specs.declared.tables.Tables.{Tables}
 use Rattle.lease.specs.Leases.{noLease, installed, nothing}
-use Rattle.client.specs.Clients.{withLease, inState, wholeClient}
+use Rattle.client.specs.Clients.{withLease, withSession, inState, wholeAll}
 use Rattle.client.specs.declared.client.Client.{Client}
 use Rattle.client.specs.declared.reset.Settled.{Settled}
 use Rattle.client.specs.declared.reset.WasReset.{WasReset}
 use Rattle.client.specs.declared.reset.ResetOutcome.the-variants.{Done, Refused}
 
--- What every call on a client and its tables tests first.
-unfoldable pub wholeAll : Client → Tables → Bool
-wholeAll c t = if wholeClient c then wholeTables t else false
-
 -- Where no lease is held, the client starts over, and nothing else changes.
 abbrev pub restarted : Client → Tables → Settled
-restarted c t = record { client = inState c Init; tables = t; purge = false }
+restarted c t = record { client = withSession c (inState (c .session) Init); tables = t; purge = false }
 
 -- Where one is, it is all zero after, and what it has put into the tables is out.
 abbrev pub dropped : Client → Tables → Settled
 dropped c t = record {
-  client = withLease c Init noLease;
+  client = withLease c (inState (c .session) Init) noLease;
   tables = applied t nothing (installed (c .lease)) .tables;
   purge = applied t nothing (installed (c .lease)) .purge;
 }
 
 unfoldable pub cleared : Client → Tables → Settled
-cleared c t = if hasLease (c .state) then dropped c t else restarted c t
+cleared c t = if hasLease (c .session .state) then dropped c t else restarted c t
 
 -- The call: 9, and then client and tables are as they came.
 abbrev pub resetDone : Settled → WasReset

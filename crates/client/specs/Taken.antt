@@ -2,7 +2,7 @@
 use Prim.Native.Nat.{ℕ}
 use mathlib.Core.Bool.{Bool, false, not}
 use mathlib.Core.List.{List}
-use Rattle.clock.specs.Choice.{if_then_else_}
+use Rattle.choice.specs.Choice.{if_then_else_}
 use Rattle.clock.specs.declared.instant.Instant.{Instant}
 use Rattle.machine.specs.States.{hasLease, requesting}
 use Rattle.machine.specs.declared.state.ClientState.{ClientState}
@@ -13,10 +13,11 @@ use Rattle.tables.specs.declared.tables.Tables.{Tables}
 use Rattle.tables.specs.declared.apply.Installed.{Installed}
 use Rattle.lease.specs.Bound.{boundBy}
 use Rattle.lease.specs.Leases.{leaseOf, sameLease, installed, nothing}
-use Rattle.client.specs.Clients.{withLease, inState}
-use Rattle.client.specs.Resets.{wholeAll, cleared}
+use Rattle.client.specs.Clients.{withLease, withSession, inState, wholeAll}
+use Rattle.client.specs.Resets.{cleared}
 use Rattle.judge.specs.Judged.{judged}
 use Rattle.lease.specs.declared.lease.DhcpLease.{DhcpLease}
+use Rattle.client.specs.declared.client.Session.{Session}
 use Rattle.client.specs.declared.client.Client.{Client}
 use Rattle.judge.specs.declared.judge.Recipient.{Recipient}
 use Rattle.judge.specs.declared.judge.Acked.{Acked}
@@ -43,30 +44,30 @@ unfoldable pub heldBy : ClientState → DhcpLease → Installed
 heldBy state held = if hasLease state then installed held else nothing
 
 -- Another lease, in the place of the one that is held, if one is.
-abbrev pub entered : Client → Tables → ClientState → DhcpLease → Settled
-entered c t state lease = record {
-  client = withLease c state lease;
-  tables = applied t (installed lease) (heldBy (c .state) (c .lease)) .tables;
-  purge = applied t (installed lease) (heldBy (c .state) (c .lease)) .purge;
+abbrev pub entered : Client → Tables → Session → DhcpLease → Settled
+entered c t session lease = record {
+  client = withLease c session lease;
+  tables = applied t (installed lease) (heldBy (c .session .state) (c .lease)) .tables;
+  purge = applied t (installed lease) (heldBy (c .session .state) (c .lease)) .purge;
 }
 
--- An ACK with its lease and the state that it leads to. "An ACK whose lease equals the one held (stored options included)
+-- An ACK with its lease and the session that it leads to. "An ACK whose lease equals the one held (stored options included)
 -- moves the moments, ends rebinding as any accepted ACK does, and changes nothing else."
-unfoldable pub ackedAs : Client → Tables → ClientState → DhcpLease → Settled
-ackedAs c t state lease =
-    if holds (c .state) (c .lease) lease then record { client = inState c state; tables = t; purge = false }
-    else entered c t state lease
+unfoldable pub ackedAs : Client → Tables → Session → DhcpLease → Settled
+ackedAs c t session lease =
+    if holds (c .session .state) (c .lease) lease then record { client = withSession c session; tables = t; purge = false }
+    else entered c t session lease
 
 abbrev pub ackLease : Client → List ℕ → Acked → DhcpLease
-ackLease c reply ack = leaseOf (serverOf (c .state) (c .lease) (ack .server)) (ack .address) (ack .prefix) reply
+ackLease c reply ack = leaseOf (serverOf (c .session .state) (c .lease) (ack .server)) (ack .address) (ack .prefix) reply
 
 unfoldable pub acked : Client → Tables → List ℕ → Instant → Acked → Settled
-acked c t reply moment ack = ackedAs c t (boundBy (c .settings) reply moment) (ackLease c reply ack)
+acked c t reply moment ack = ackedAs c t (inState (c .session) (boundBy (c .settings) reply moment)) (ackLease c reply ack)
 
 -- An OFFER: Requesting, due now.
 abbrev pub offered : Client → Tables → Instant → Offered → Settled
 offered c t moment offer = record {
-  client = inState c (requesting (offer .server) (offer .address) moment);
+  client = withSession c (inState (c .session) (requesting (offer .server) (offer .address) moment));
   tables = t;
   purge = false;
 }
@@ -85,8 +86,8 @@ replied c t reply moment (PassedOver number) = record { client = c; tables = t; 
 abbrev pub recipientOf : Client → Recipient
 recipientOf c = record {
   hardware = c .settings .hardware;
-  id = c .«transaction_id»;
-  state = c .state;
+  id = c .session .«transaction_id»;
+  state = c .session .state;
   ignoring = c .«ignore_naks»;
 }
 

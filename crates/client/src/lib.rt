@@ -4,18 +4,18 @@
 // Any client, tables, generator, reply, moment and buffer have an answer: a result, or a number of document 01, and then
 // nothing has changed.
 
-mod apply;
 pub mod client;
 pub mod lookup;
 pub mod poll;
 pub mod process;
 pub mod reset;
+mod taken;
 
 pub use client::Client;
 pub use client::Created;
+pub use client::Session;
 pub use lookup::Leased;
 pub use lookup::Standing;
-pub use poll::Made;
 pub use poll::PollAnswer;
 pub use poll::PollOutcome;
 pub use poll::Polled;

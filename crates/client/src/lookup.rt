@@ -24,12 +24,13 @@ impl Client {
     pub fn lease(self) -> Leased
         ensures { λ r. ⌜ r ≡ leaseHeld self ⌝ }
     {
-        let lease = self.lease;
-        let state = self.state;
+        let session = self.session;
+        let state = session.state;
         if !self.is_whole() {
             return unheld(Has::Refused(9));
         }
         if state.has_lease() {
+            let lease = self.lease;
             return Leased {
                 lease,
                 held: Has::Yes,
@@ -42,13 +43,13 @@ impl Client {
     pub fn get(self, kind: u8) -> Got
         ensures { λ r. ⌜ r ≡ optionHeld self kind ⌝ }
     {
-        let options = self.lease.options;
-        let state = self.state;
+        let session = self.session;
+        let state = session.state;
         if !self.is_whole() {
             return Got::Refused(9);
         }
         if state.has_lease() {
-            return options.get(kind);
+            return self.lease.options.get(kind);
         }
         Got::Absent
     }
@@ -57,7 +58,8 @@ impl Client {
     pub fn state(self) -> Standing
         ensures { λ r. ⌜ r ≡ standing self ⌝ }
     {
-        let state = self.state;
+        let session = self.session;
+        let state = session.state;
         if !self.is_whole() {
             return Standing::Refused(9);
         }

@@ -1,10 +1,14 @@
 // Replies: any bytes, from any source.
 ghost use mathlib.Core.Path.{_≡_};
-ghost use Rattle.client.specs.Taken.{recipientOf, processed, takenAs};
+ghost use Rattle.client.specs.Calls.{calls};
+ghost use Rattle.client.specs.Taken.{recipientOf, takenAs};
 use crate::client::Client;
+use crate::client::Session;
 use crate::reset::Settled;
 use clock::Instant;
 use judge::Recipient;
+use judge::Verdict;
+use machine::ClientState;
 use tables::Tables;
 
 // What became of a reply: it was taken, and whether link state is to be purged; it was passed over by a number from 20 to
@@ -23,11 +27,19 @@ pub struct Processed {
 }
 
 impl Client {
-    // Takes a reply, the UDP payload, or passes it over; 9 where client or tables are not whole.
-    pub fn process(self, tables: Tables, source: u32, reply: &[u8], moment: Instant) -> Processed
-        ensures { λ r. ⌜ r ≡ processed self tables source (now (reply .entry)) moment ⌝ }
+    // Takes a reply, the UDP payload, or passes it over; 9 where client or tables are not whole. Each answer is made here, as a
+    // function that hands client and tables on costs a copy of them.
+    pub fn process(
+        mut self,
+        tables: Tables,
+        source: u32,
+        reply: &[u8],
+        moment: Instant,
+    ) -> Processed
+        ensures { λ r. ⌜ r ≡ calls .process self tables source (now (reply .entry)) moment ⌝ }
     {
-        if !self.is_whole_with(tables) {
+        let whole = self.is_whole() & tables.is_whole();
+        if !whole {
             return Processed {
                 client: self,
                 tables,
@@ -35,18 +47,47 @@ impl Client {
             };
         }
         let verdict = self.recipient().judge(source, reply);
-        self.apply(tables, reply, moment, verdict)
+        match verdict {
+            Verdict::Offer(offer) => {
+                let server = offer.server;
+                let state = ClientState::requesting(server, offer.address, moment);
+                let session = Session {
+                    state,
+                    transaction_id: self.session.transaction_id,
+                };
+                self.session = session;
+                return Processed {
+                    client: self,
+                    tables,
+                    outcome: ReplyOutcome::Taken { purge: false },
+                };
+            }
+            Verdict::Ack(ack) => {
+                return self.acked(tables, reply, moment, ack).taken();
+            }
+            Verdict::Nak => {
+                return self.cleared(tables).taken();
+            }
+            Verdict::PassedOver(number) => {
+                return Processed {
+                    client: self,
+                    tables,
+                    outcome: ReplyOutcome::PassedOver(number),
+                };
+            }
+        }
     }
 
     // What of this client decides on a reply.
-    pub fn recipient(self) -> Recipient
+    fn recipient(self) -> Recipient
         ensures { λ r. ⌜ r ≡ recipientOf self ⌝ }
     {
         let hardware = self.settings.hardware;
-        let state = self.state;
+        let session = self.session;
+        let state = session.state;
         Recipient {
             hardware,
-            id: self.transaction_id,
+            id: self.session.transaction_id,
             state,
             ignoring: self.ignore_naks,
         }

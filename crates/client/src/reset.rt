@@ -1,7 +1,9 @@
 // Resets: the lease is dropped, if one is held, and the client starts over.
 ghost use mathlib.Core.Path.{_≡_};
-ghost use Rattle.client.specs.Resets.{wholeAll, restarted, dropped, cleared, wasReset};
+ghost use Rattle.client.specs.Calls.{calls};
+ghost use Rattle.client.specs.Resets.{restarted, dropped, cleared};
 use crate::client::Client;
+use crate::client::Session;
 use lease::DhcpLease;
 use lease::nothing;
 use machine::ClientState;
@@ -30,9 +32,10 @@ pub(crate) struct Settled {
 impl Client {
     // Drops the lease, if one is held, and starts over; 9 where client or tables are not whole.
     pub fn reset(self, tables: Tables) -> WasReset
-        ensures { λ r. ⌜ r ≡ wasReset self tables ⌝ }
+        ensures { λ r. ⌜ r ≡ calls .reset self tables ⌝ }
     {
-        if !self.is_whole_with(tables) {
+        let whole = self.is_whole() & tables.is_whole();
+        if !whole {
             return WasReset {
                 client: self,
                 tables,
@@ -51,48 +54,48 @@ impl Client {
         }
     }
 
-    // Whether number 9 finds nothing in the client and its tables.
-    pub fn is_whole_with(self, tables: Tables) -> bool
-        ensures { λ r. ⌜ r ≡ wholeAll self tables ⌝ }
-    {
-        if self.is_whole() {
-            return tables.is_whole();
-        }
-        false
-    }
-
     // A whole client's reset. The lease is left as it came in a state that does not read it.
     pub(crate) fn cleared(self, tables: Tables) -> Settled
         ensures { λ r. ⌜ r ≡ cleared self tables ⌝ }
     {
-        let state = self.state;
+        let session = self.session;
+        let state = session.state;
         if state.has_lease() {
             return self.dropped(tables);
         }
         self.restarted(tables)
     }
 
-    fn restarted(self, tables: Tables) -> Settled
+    fn restarted(mut self, tables: Tables) -> Settled
         ensures { λ r. ⌜ r ≡ restarted self tables ⌝ }
     {
-        let client = self.in_state(ClientState::Init);
+        let session = Session {
+            state: ClientState::Init,
+            transaction_id: self.session.transaction_id,
+        };
+        self.session = session;
         Settled {
-            client,
+            client: self,
             tables,
             purge: false,
         }
     }
 
     // The lease goes, and with it what it has put into the tables.
-    fn dropped(self, tables: Tables) -> Settled
+    fn dropped(mut self, tables: Tables) -> Settled
         ensures { λ r. ⌜ r ≡ dropped self tables ⌝ }
     {
-        let lease = self.lease;
-        let applied = tables.dhcpv4_apply(nothing(), lease.installed());
+        let applied = tables.dhcpv4_apply(nothing(), self.lease.installed());
         let left = applied.tables;
-        let client = self.with_lease(ClientState::Init, DhcpLease::zero());
+        let session = Session {
+            state: ClientState::Init,
+            transaction_id: self.session.transaction_id,
+        };
+        let lease = DhcpLease::zero();
+        self.session = session;
+        self.lease = lease;
         Settled {
-            client,
+            client: self,
             tables: left,
             purge: applied.purge,
         }

@@ -15,11 +15,8 @@ bound-requires c κs = search needs
 holds-requires : tie.Need-holds-requires
 holds-requires c κs = search needs
 
-in-state-requires : tie.Need-in-state-requires
-in-state-requires c κs = search needs
-
 returns : tie.Need-returns
-returns c = ack-same _ _ _ _ _ (c .before .before .before .bound .ensures) (c .before .before .before .before .before .server .ensures) (c .before .before .before .before .of-ack .ensures) (c .before .before .holds .ensures) (c .before .if1 .taken) (c .in-state .ensures)
+returns c = ack-same _ _ _ _ _ (c .before .before .bound .ensures) (c .before .before .before .before .server .ensures) (c .before .before .before .of-ack .ensures) (c .before .holds .ensures) (c .if1 .taken)
 
 entered-requires : tie.Need-entered-requires
 entered-requires c κs = search needs
@@ -35,7 +32,6 @@ acked-spec =
     of-ack-requires
     bound-requires
     holds-requires
-    in-state-requires
     returns
     entered-requires
     returns-2)

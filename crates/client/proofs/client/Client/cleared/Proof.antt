@@ -1,5 +1,5 @@
 use mathlib.Core.Path.{sym, _∙_}
-use Rattle.clock.proofs.Choices.{if-true, if-false}
+use Rattle.choice.proofs.Choices.{if-true, if-false}
 use Rattle.client.specs.Resets.{cleared}
 use borrow.Author.Needs.{needs}
 use Rattle.client.proofs.client.Client.cleared.Statement.{statement}

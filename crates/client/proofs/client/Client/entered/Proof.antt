@@ -1,3 +1,4 @@
+use mathlib.Core.Path.{refl}
 use Rattle.client.proofs.Settling.{settled}
 use borrow.Author.Needs.{needs}
 use Rattle.client.proofs.client.Client.entered.Statement.{statement}
@@ -12,13 +13,8 @@ held-requires c κs = search needs
 dhcpv4-apply-requires : tie.Need-dhcpv4-apply-requires
 dhcpv4-apply-requires c κs = search needs
 
-with-lease-requires : tie.Need-with-lease-requires
-with-lease-requires c κs = search needs
-
 returns : tie.Need-returns
-returns c = settled _ (c .before .before .dhcpv4-apply .ensures) (c .before .before .before .before .installed .ensures) (c .before .before .before .held .ensures) (c .with-lease .ensures)
+returns c = settled _ (c .before .dhcpv4-apply .ensures) (c .before .before .before .installed .ensures) (c .before .before .held .ensures) refl
 
 pub entered-spec : {M : Type 1} → statement M
-entered-spec =
-    tie.close
-    (tie.spec installed-requires held-requires dhcpv4-apply-requires with-lease-requires returns)
+entered-spec = tie.close (tie.spec installed-requires held-requires dhcpv4-apply-requires returns)

@@ -1,6 +1,6 @@
 use mathlib.Core.Path.{refl, sym, ap, _∙_}
 use mathlib.Core.Bool.{not}
-use Rattle.clock.proofs.Choices.{if-true, if-false}
+use Rattle.choice.proofs.Choices.{if-true, if-false}
 use Rattle.client.specs.Lookups.{optionHeld}
 use borrow.Author.Needs.{needs}
 use Rattle.client.proofs.client.Client.get.Statement.{statement}

@@ -19,11 +19,11 @@ enum-told-2 c = search needs
 
 returns : tie.Need-returns
 unfolding wholeClient
-returns c = (c .lease-fits .ensures) ∙ ap (λ (m : MaybeNumber). wholeOr m (leaseFits (c .before .before .before .before .before .args .self .state) (c .before .before .before .before .before .args .self .lease))) (sym (c .before .enum-told .given .1) ∙ (c .before .before .before .refusal .ensures))
+returns c = (c .lease-fits .ensures) ∙ ap (λ (m : MaybeNumber). wholeOr m (leaseFits (c .before .before .before .before .before .args .self .session .state) (c .before .before .before .before .before .args .self .lease))) (sym (c .before .enum-told .given .1) ∙ (c .before .before .before .refusal .ensures))
 
 returns-2 : tie.Need-returns-2
 unfolding wholeClient
-returns-2 c = ap (λ (m : MaybeNumber). wholeOr m (leaseFits (c .before .before .before .before .args .self .state) (c .before .before .before .before .args .self .lease))) (sym (c .enum-told2 .given .1) ∙ (c .before .before .refusal .ensures))
+returns-2 c = ap (λ (m : MaybeNumber). wholeOr m (leaseFits (c .before .before .before .before .args .self .session .state) (c .before .before .before .before .args .self .lease))) (sym (c .enum-told2 .given .1) ∙ (c .before .before .refusal .ensures))
 
 pub is-whole-spec : {M : Type 1} → statement M
 is-whole-spec =

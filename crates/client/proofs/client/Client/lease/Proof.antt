@@ -1,6 +1,6 @@
 use mathlib.Core.Path.{refl, sym, ap, _∙_}
 use mathlib.Core.Bool.{not}
-use Rattle.clock.proofs.Choices.{if-true, if-false}
+use Rattle.choice.proofs.Choices.{if-true, if-false}
 use Rattle.client.specs.Lookups.{leaseHeld}
 use borrow.Author.Needs.{needs}
 use Rattle.client.proofs.client.Client.lease.Statement.{statement}
@@ -21,7 +21,7 @@ has-lease-requires c κs = search needs
 
 returns-2 : tie.Need-returns-2
 unfolding leaseHeld
-returns-2 c = if-false _ (ap not (sym (c .before .before .before .is-whole .ensures)) ∙ (c .before .before .if1 .left)) (if-true _ (sym (c .before .has-lease .ensures) ∙ (c .if2 .taken)) refl)
+returns-2 c = if-false _ (ap not (sym (c .before .before .before .before .is-whole .ensures)) ∙ (c .before .before .before .if1 .left)) (if-true _ (sym (c .before .before .has-lease .ensures) ∙ (c .before .if2 .taken)) refl)
 
 unheld-requires-2 : tie.Need-unheld-requires-2
 unheld-requires-2 c κs = search needs

@@ -1,4 +1,4 @@
-use Rattle.client.proofs.Sendings.{made-unwritten, made-written, made-short}
+use Rattle.client.proofs.Changes.{change-unwritten, change-written, change-short}
 use borrow.Author.Needs.{needs}
 use Rattle.client.proofs.client.Client.send.Statement.{statement}
 use Rattle.client.proofs.client.Client.send.Tie as tie
@@ -13,10 +13,10 @@ moved-requires : tie.Need-moved-requires
 moved-requires c κs = search needs
 
 returns : tie.Need-returns
-returns c = made-unwritten (c .before .before .before .before .before .args .self) (c .before .before .before .before .before .args .rand) (c .before .before .before .before .before .args .wake) (c .before .before .before .before .before .args .sending) _ (c .before .before .if1 .taken) (c .before .before .before .drawn .ensures) (c .before .silent .ensures) (c .moved .ensures)
+returns c = change-unwritten (c .before .before .before .before .before .before .args .self) (c .before .before .before .before .before .before .args .rand) (c .before .before .before .before .before .before .args .wake) (c .before .before .before .before .before .before .args .sending) _ (c .before .before .if1 .taken) (c .before .before .before .drawn .ensures) (c .before .silent .ensures) (c .moved .ensures)
 
-route-requires : tie.Need-route-requires
-route-requires c κs = search needs
+endpoints-requires : tie.Need-endpoints-requires
+endpoints-requires c κs = search needs
 
 write-requires : tie.Need-write-requires
 write-requires c κs = search needs
@@ -40,13 +40,13 @@ same-length : tie.Need-same-length
 same-length c = search needs
 
 returns-2 : tie.Need-returns-2
-returns-2 c = made-written (c .before .before .before .before .before .before .before .before .before .before .before .before .before .args .self) (c .before .before .before .before .before .before .before .before .before .before .before .before .before .args .rand) (c .before .before .before .before .before .before .before .before .before .before .before .before .before .args .wake) (c .before .before .before .before .before .before .before .before .before .before .before .before .before .args .sending) _ (c .before .before .before .before .before .before .before .before .before .before .if1 .left) (c .before .before .before .before .before .before .before .before .before .before .before .drawn .ensures) (c .before .before .before .before .before .before .before .before .before .route .ensures) (c .before .before .before .before .before .before .before .write .ensures) (c .before .before .before .n .given .1) (c .before .built .ensures) (c .moved2 .ensures)
+returns-2 c = change-written (c .before .before .before .before .before .before .before .before .before .before .before .before .before .before .args .self) (c .before .before .before .before .before .before .before .before .before .before .before .before .before .before .args .rand) (c .before .before .before .before .before .before .before .before .before .before .before .before .before .before .args .wake) (c .before .before .before .before .before .before .before .before .before .before .before .before .before .before .args .sending) _ (c .before .before .before .before .before .before .before .before .before .before .if1 .left) (c .before .before .before .before .before .before .before .before .before .before .before .drawn .ensures) (c .before .before .before .before .before .before .before .before .before .endpoints .ensures) (c .before .before .before .before .before .before .before .write .ensures) (c .before .before .before .n .given .1) (c .before .built .ensures) (c .moved2 .ensures)
 
 same-length-2 : tie.Need-same-length-2
 same-length-2 c = search needs
 
 returns-3 : tie.Need-returns-3
-returns-3 c = made-short (c .before .before .before .before .before .before .before .before .before .before .before .args .self) (c .before .before .before .before .before .before .before .before .before .before .before .args .rand) (c .before .before .before .before .before .before .before .before .before .before .before .args .wake) (c .before .before .before .before .before .before .before .before .before .before .before .args .sending) _ (c .before .before .before .before .before .before .before .before .if1 .left) (c .before .before .before .before .before .before .before .before .before .drawn .ensures) (c .before .before .before .before .before .before .before .route .ensures) (c .before .before .before .before .before .write .ensures) (c .before .enum-told .given .1) (c .unmoved .ensures)
+returns-3 c = change-short (c .before .before .before .before .before .before .before .before .before .before .before .before .args .self) (c .before .before .before .before .before .before .before .before .before .before .before .before .args .rand) (c .before .before .before .before .before .before .before .before .before .before .before .before .args .wake) (c .before .before .before .before .before .before .before .before .before .before .before .before .args .sending) _ (c .before .before .before .before .before .before .before .before .if1 .left) (c .before .before .before .before .before .before .before .before .before .drawn .ensures) (c .before .before .before .before .before .before .before .endpoints .ensures) (c .before .before .before .before .before .write .ensures) (c .before .enum-told .given .1) (c .unmoved .ensures)
 
 pub send-spec : {M : Type 1} → statement M
 send-spec =
@@ -56,7 +56,7 @@ send-spec =
     silent-requires
     moved-requires
     returns
-    route-requires
+    endpoints-requires
     write-requires
     enum-known-n
     built-requires
