@@ -1,16 +1,17 @@
 -- History, state and deadlines agree: on time that never wraps, expiry lies L after the ACK that is held. Assumes nothing.
 use Prim.Native.Nat.{ℕ, _+_, _≤_, _<_}
-use mathlib.Core.Path.{_≡_, refl, sym, ap}
-use mathlib.Core.Bool.{Bool, true, false≢true}
+use mathlib.Core.Path.{_≡_, refl, sym, ap, subst⁻¹}
+use mathlib.Core.Bool.{Bool, true, false, false≢true}
 use native.Mathlib.Omega.{arith}
 use native.Mathlib.Decide.{decLe}
 use borrow.Author.Tests.{le-leb, lt-leb}
 use Rattle.clock.specs.Durations.{longest}
-use Rattle.clock.proofs.Choices.{if-true, if-false}
+use Rattle.choice.proofs.Choices.{if-true, if-false}
 use Rattle.machine.specs.States.{hasLease}
 use Rattle.machine.specs.declared.state.ClientState.{ClientState}
-use Rattle.machine.specs.declared.poll.Sending.{Sending}
-use Rattle.machine.proofs.Timers.{Timers, unset, single, leased, Shows, init, discovering, requesting as requesting-shows, renewing, Dated, dated-later, Near, dated-near, Ahead}
+use Rattle.machine.specs.declared.state.ClientState.the-variants.{Init}
+use Rattle.machine.specs.declared.decide.Sending.{Sending}
+use Rattle.machine.proofs.Timers.{Timers, unset, single, leased, Shows, init, discovering, requesting as requesting-shows, renewing, Waiting, Dated, dated-later, Near, dated-near, Ahead}
 use Rattle.machine.proofs.Decisions.{Over, Goes, discovers-from, requests-again, renews}
 use Rattle.client.specs.declared.client.Client.{Client}
 use Rattle.judge.proofs.Verdicts.{begun}
@@ -70,13 +71,54 @@ timing (since k) t x d = by (decLe k longest)
     by (yes l) = in-time (dated-near k t x l d)
     by (no f) = late f
 
--- once a message was sent, deadlines that lie no further back may be set
-pub dated-anew : (gp : Since) (t : ℕ) (x : Timers) (state : ClientState) → Shows x state → DatedBy gp t x → begun state ≡ true → (x′ : Timers) → ((k : ℕ) → Dated k t x′) → DatedBy gp t x′
-dated-anew never t x state init d b x′ f = absurd (false≢true b)
-dated-anew never t x state (discovering h) d b x′ f = absurd d
-dated-anew never t x state (requesting-shows h) d b x′ f = absurd d
-dated-anew never t x state (renewing h i j) d b x′ f = absurd d
-dated-anew (since k) t x state sh d b x′ f = f k
+-- Once a message was sent, deadlines that lie no further back may be set.
+abbrev pub Began : Since → Type 0
+Began never = ⊥
+Began (since k) = Unit {0}
+
+pub began-by : (gp : Since) (t : ℕ) (x : Timers) (state : ClientState) → Shows x state → DatedBy gp t x → begun state ≡ true → Began gp
+began-by never t x state init d b = absurd (false≢true b)
+began-by never t x state (discovering h) d b = absurd d
+began-by never t x state (requesting-shows h) d b = absurd d
+began-by never t x state (renewing h i j) d b = absurd d
+began-by (since k) t x state sh d b = tt
+
+pub dated-anew : (gp : Since) (t : ℕ) → Began gp → (x : Timers) → ((k : ℕ) → Dated k t x) → DatedBy gp t x
+dated-anew never t b x f = absurd b
+dated-anew (since k) t b x f = f k
+
+-- A state without a lease: Init; or, once a message was sent, one whose only deadline is now or at most 2^30 ms on.
+pub data Leaseless (gp : Since) (t : ℕ) (state : ClientState) : Type 0 where
+  starts : state ≡ Init → Leaseless gp t state
+  waits : Began gp → Waiting t state → Leaseless gp t state
+
+pub leaseless-timers : {gp : Since} {t : ℕ} {state : ClientState} → Leaseless gp t state → Timers
+leaseless-timers (starts e) = unset
+leaseless-timers (waits b v) = single (v .until)
+
+pub leaseless-shows : {gp : Since} {t : ℕ} {state : ClientState} (n : Leaseless gp t state) → Shows (leaseless-timers n) state
+unfolding leaseless-timers
+leaseless-shows (starts e) = subst⁻¹ (Shows unset) e init
+leaseless-shows (waits b v) = v .shows
+
+pub leaseless-dated : {gp : Since} {t : ℕ} {state : ClientState} (n : Leaseless gp t state) → DatedBy gp t (leaseless-timers n)
+unfolding leaseless-timers
+leaseless-dated {gp} {t} (starts e) = dated-unset gp t
+leaseless-dated {gp} {t} (waits b v) = dated-anew gp t b (single (v .until)) (λ k. (omega (arith, v .from), v .most))
+
+pub leaseless-agrees : {gp : Since} {t : ℕ} {state : ClientState} (n : Leaseless gp t state) → Agree t NoAck (leaseless-timers n)
+unfolding leaseless-timers
+leaseless-agrees (starts e) = tt
+leaseless-agrees (waits b v) = tt
+
+-- by the deadlines that a state shows
+pub none-shown : {r : ℕ} {state : ClientState} → Shows (single r) state → hasLease state ≡ false
+none-shown (discovering h) = refl
+none-shown (requesting-shows h) = refl
+
+pub leaseless-none : {gp : Since} {t : ℕ} {state : ClientState} → Leaseless gp t state → hasLease state ≡ false
+leaseless-none (starts e) = ap hasLease e
+leaseless-none (waits b v) = none-shown (v .shows)
 
 -- A lease is in force exactly if an ACK is held.
 pub lease-is : (t : ℕ) (h : History) (x : Timers) (state : ClientState) → Shows x state → Agree t h x → hasLease state ≡ isHeld h
@@ -111,7 +153,7 @@ module _ (t : ℕ) where
   ahead-held h (leased a b e g) k l = held-on h a b e g k (l .0 .0)
 
 -- a Request leads from a state without a lease, or with one, to such a state
-pub fitting : {t : ℕ} {x x′ : Timers} {m : Sending} {state : ClientState} → Shows x state → Goes t x m x′ → (c : Client) → c .state ≡ state → Fitting c m
+pub fitting : {t : ℕ} {x x′ : Timers} {m : Sending} {state : ClientState} → Shows x state → Goes t x m x′ → (c : Client) → c .session .state ≡ state → Fitting c m
 fitting sh (discovers-from o) c e = tt
 fitting (discovering p) requests-again c e = ap hasLease e
 fitting (requesting-shows p) requests-again c e = ap hasLease e

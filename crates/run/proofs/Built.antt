@@ -9,15 +9,15 @@ use lib.ListN.{length}
 use Rattle.clock.specs.declared.instant.Instant.{Instant}
 use Rattle.clock.specs.declared.rand.Rand.{Rand}
 use Rattle.clock.specs.declared.waits.Waits.{Waits}
-use Rattle.clock.proofs.Choices.{if-cases}
+use Rattle.choice.proofs.Choices.{if-cases}
 use Rattle.octets.specs.Runs.{over}
-use Rattle.machine.specs.Polling.{decided}
-use Rattle.machine.specs.declared.poll.Sending.{Sending}
-use Rattle.machine.specs.declared.poll.Due.{Due}
-use Rattle.machine.specs.declared.poll.Due.the-variants.{Nothing, Send}
+use Rattle.machine.specs.Decisions.{decided}
+use Rattle.machine.specs.declared.decide.Sending.{Sending}
+use Rattle.machine.specs.declared.decide.Due.{Due}
+use Rattle.machine.specs.declared.decide.Due.the-variants.{Nothing, Send}
 use Rattle.tables.specs.declared.tables.Tables.{Tables}
-use Rattle.client.specs.Resets.{wholeAll}
-use Rattle.client.specs.Polls.{PolledInto, datagramOf, refusedBy, moved, polledAs, polled}
+use Rattle.client.specs.Clients.{wholeAll}
+use Rattle.client.specs.Polls.{PolledInto, datagramOf, refusedBy, moved, polledAs, polledWith}
 use Rattle.client.specs.declared.client.Client.{Client}
 use Rattle.client.specs.declared.poll.PollAnswer.{PollAnswer}
 use Rattle.client.specs.declared.poll.PollOutcome.the-variants.{Answered}
@@ -40,11 +40,11 @@ moved-builds : (c : Client) (t : Tables) (g : Rand) (m : Instant) (s : Sending) 
 moved-builds c t g m s [] a e l = absurd (omega (arith, ap lengthOf e))
 moved-builds c t g m s (y ∷ ys) a e l = (sym (ap lengthOf e), refl)
 
-pub builds-due : (w : Waits) (c : Client) (t : Tables) (g : Rand) (now : Instant) (b : List ℕ) → BuildsDue (datagramDue c g (decided w (c .state) (now .millis) .due)) b (polled w c t g now b)
-unfolding polled
+pub builds-due : (w : Waits) (c : Client) (t : Tables) (g : Rand) (now : Instant) (b : List ℕ) → BuildsDue (datagramDue c g (decided w (c .session .state) (now .millis) .due)) b (polledWith w c t g now b)
+unfolding polledWith
 builds-due w c t g now b =
-    if-cases (BuildsDue (datagramDue c g (decided w (c .state) (now .millis) .due)) b) (not (wholeAll c t)) (λ e. refused-builds c t g b _ 9)
-    (λ e. by (decided w (c .state) (now .millis) .due) (decided w (c .state) (now .millis) .wake))
+    if-cases (BuildsDue (datagramDue c g (decided w (c .session .state) (now .millis) .due)) b) (not (wholeAll c t)) (λ e. refused-builds c t g b _ 9)
+    (λ e. by (decided w (c .session .state) (now .millis) .due) (decided w (c .session .state) (now .millis) .wake))
   where
     by : (d : Due) (m : Instant) → BuildsDue (datagramDue c g d) b (polledAs c t g b m d)
     by Nothing m = λ a e l. absurd (omega (arith, ap lengthOf e))

@@ -3,12 +3,10 @@ use Prim.Native.Nat.{ℕ}
 use mathlib.Core.Path.{_≡_, refl, sym, ap, _∙_}
 use mathlib.Core.Bool.{Bool, true, false}
 use mathlib.Core.List.{List, []}
-use Rattle.clock.specs.Choice.{if_then_else_}
-use Rattle.clock.proofs.Choices.{if-true, if-false, if-cases}
-use Rattle.octets.specs.Addresses.{unicast}
+use Rattle.choice.specs.Choice.{if_then_else_}
+use Rattle.choice.proofs.Choices.{if-true, if-false}
 use Rattle.octets.specs.declared.number.MaybeNumber.{MaybeNumber}
 use Rattle.octets.specs.declared.number.MaybeNumber.the-variants.{None, Some}
-use Rattle.wire.specs.Readings.{ifUnicast, router}
 use Rattle.tables.specs.Entries.{only, full, lessLost}
 use Rattle.tables.specs.Tables.{addrsOf, routesOf, addrIsDhcp, routeIsDhcp, dhcpAddrs, otherAddrs, dhcpRoutes, otherRoutes}
 use Rattle.tables.specs.declared.address.IfaceAddr.{IfaceAddr}
@@ -23,12 +21,12 @@ use Rattle.tables.specs.declared.apply.Installed.{Installed}
 use Rattle.tables.proofs.Origins.{same-cidr, same-cidr-self, same-router, same-router-self}
 use Rattle.lease.specs.Leases.{nothing}
 use Rattle.client.proofs.Effects.{Entered}
-use Rattle.run.specs.Demand3.{Acked, History, heldBy, lostBy, Lost, unlessLost, routesBy}
+use Rattle.run.specs.Demand3.{Acked, History, heldBy, lostBy, Lost, unlessLost}
 
 -- DHCP's entries are those that the ACK gives, less any lost.
 pub record Tab (tb : Tables) (lost : Lost) (i : Installed) : Type 0 where
   pub addrs : dhcpAddrs tb ≡ unlessLost (lost .addr) (leasedAddrs (i .address))
-  pub routes : dhcpRoutes tb ≡ unlessLost (lost .route) (routesBy (i .router))
+  pub routes : dhcpRoutes tb ≡ unlessLost (lost .route) (leasedRoutes (i .router))
 
 pub lost-none : {A : Type 0} (b : Bool) → unlessLost {A = A} b [] ≡ []
 unfolding unlessLost if_then_else_
@@ -52,7 +50,6 @@ module _ (tb tb′ : Tables) (lost : Lost) where
       }
 
   pub tab-none : (i : Installed) → Entered tb tb′ i nothing → Tab tb lost i → Tab tb′ lost nothing
-  unfolding leasedRoutes
   tab-none i n k =
       record {
         addrs = n .addrs ∙ no-addrs (i .address) (k .addrs) ∙ sym (lost-none (lost .addr));
@@ -63,15 +60,15 @@ module _ (tb tb′ : Tables) (lost : Lost) where
       no-addrs Absent e = sym (if-true _ refl refl) ∙ e ∙ lost-none (lost .addr)
       no-addrs (Cidr a p) e = sym (if-false _ refl refl) ∙ none-taken (otherAddrs tb)
 
-      no-routes : (m : MaybeNumber) → dhcpRoutes tb ≡ unlessLost (lost .route) (routesBy m) → (if sameRouter None m then dhcpRoutes tb else lessLost (otherRoutes tb) []) ≡ []
+      no-routes : (m : MaybeNumber) → dhcpRoutes tb ≡ unlessLost (lost .route) (leasedRoutes m) → (if sameRouter None m then dhcpRoutes tb else lessLost (otherRoutes tb) []) ≡ []
       no-routes None e = sym (if-true _ refl refl) ∙ e ∙ lost-none (lost .route)
       no-routes (Some a) e = sym (if-false _ refl refl) ∙ none-taken (otherRoutes tb)
 
   -- an ACK, and what it loses of what it enters
-  pub tab-acked : (l : ℕ) (h : History) (new : Installed) → Entered tb tb′ (heldBy h) new → leasedRoutes (new .router) ≡ routesBy (new .router)
+  pub tab-acked : (l : ℕ) (h : History) (new : Installed) → Entered tb tb′ (heldBy h) new
       → Tab tb lost (heldBy h) → Tab tb′ (lostBy tb (Acked l new) h lost) new
   unfolding lostBy lessLost unlessLost if_then_else_
-  tab-acked l h new n u k =
+  tab-acked l h new n k =
       record {
         addrs = n .addrs ∙ of-addrs (sameCidr (new .address) (heldBy h .address)) refl;
         routes = n .routes ∙ of-routes (sameRouter (new .router) (heldBy h .router)) refl;
@@ -83,15 +80,9 @@ module _ (tb tb′ : Tables) (lost : Lost) where
       of-addrs false e = refl
 
       of-routes : (b : Bool) → sameRouter (new .router) (heldBy h .router) ≡ b
-          → (if b then dhcpRoutes tb else lessLost (otherRoutes tb) (leasedRoutes (new .router))) ≡ unlessLost (if b then lost .route else full (otherRoutes tb)) (routesBy (new .router))
-      of-routes true e = k .routes ∙ ap (λ (m : MaybeNumber). unlessLost (lost .route) (routesBy m)) (sym (same-router (new .router) (heldBy h .router) e))
-      of-routes false e = ap (lessLost (otherRoutes tb)) u
-
--- a router that a reply gives makes a route
-pub routed : (m : MaybeNumber) → leasedRoutes (ifUnicast m) ≡ routesBy (ifUnicast m)
-unfolding leasedRoutes
-routed None = refl
-routed (Some a) = if-cases (λ (r : MaybeNumber). leasedRoutes r ≡ routesBy r) (unicast a) (λ u. sym (if-true _ u refl)) (λ u. refl)
+          → (if b then dhcpRoutes tb else lessLost (otherRoutes tb) (leasedRoutes (new .router))) ≡ unlessLost (if b then lost .route else full (otherRoutes tb)) (leasedRoutes (new .router))
+      of-routes true e = k .routes ∙ ap (λ (m : MaybeNumber). unlessLost (lost .route) (leasedRoutes m)) (sym (same-router (new .router) (heldBy h .router) e))
+      of-routes false e = refl
 
 -- DHCP's entries of one table
 abbrev pub own-in : AddrTable → List IfaceAddr

@@ -4,59 +4,48 @@ use mathlib.Core.Path.{_≡_, refl, sym, ap, _∙_, subst, subst⁻¹}
 use mathlib.Core.Bool.{true, false, false≢true}
 use mathlib.Core.List.{List, [], _∷_}
 use native.Mathlib.Omega.{arith}
-use Rattle.clock.specs.Choice.{if_then_else_}
+use Rattle.choice.specs.Choice.{if_then_else_}
 use Rattle.clock.specs.Durations.{longest}
 use Rattle.clock.specs.Moments.{wrap, moment}
 use Rattle.clock.specs.declared.instant.Instant.{Instant}
 use Rattle.clock.specs.declared.rand.Rand.{Rand}
 use Rattle.clock.specs.declared.waits.Waits.{Waits}
-use Rattle.clock.proofs.Choices.{if-true, if-false}
+use Rattle.choice.proofs.Choices.{if-true, if-false}
 use Rattle.clock.proofs.MomentLaws.{plus-near}
-use Rattle.octets.specs.declared.number.MaybeNumber.the-variants.{Some}
+use Rattle.octets.specs.Codes.{leaseTimeCode, renewalCode, rebindingCode}
 use Rattle.wire.specs.Options.{optionData}
-use Rattle.wire.specs.Readings.{messageType, addressOf, secondsOf, router, routerCode}
-use Rattle.machine.specs.States.{hasLease, offer, ack, nak, requesting}
+use Rattle.wire.specs.Readings.{secondsOf, router}
+use Rattle.machine.specs.States.{hasLease}
 use Rattle.machine.specs.Times.{given, timesOf, renewAfter, rebindAfter}
-use Rattle.machine.specs.Polling.{following, InRange}
+use Rattle.machine.specs.Decisions.{following, InRange}
 use Rattle.machine.specs.declared.state.ClientState.{ClientState}
-use Rattle.machine.specs.declared.state.ClientState.the-variants.{Init, Discovering, Requesting, Renewing}
-use Rattle.machine.specs.declared.poll.Sending.{Sending}
-use Rattle.machine.proofs.Timers.{Timers, unset, single, leased, Shows, init, requesting as requesting-shows, renewing, Dated, Ahead, ahead-dated}
+use Rattle.machine.specs.declared.state.ClientState.the-variants.{Discovering, Requesting, Renewing}
+use Rattle.machine.specs.declared.decide.Sending.{Sending}
+use Rattle.machine.proofs.Timers.{Timers, leased, Shows, renewing, Dated, Ahead, ahead-dated}
 use Rattle.machine.proofs.Decisions.{Goes, discovers-from, requests-again, renews}
 use Rattle.machine.proofs.Bounds.{lease-most, row-nearer}
 use Rattle.tables.specs.Tables.{dhcpAddrs, dhcpRoutes}
 use Rattle.tables.specs.declared.tables.Tables.{Tables}
 use Rattle.tables.specs.declared.apply.MaybeCidr.{MaybeCidr}
 use Rattle.tables.specs.declared.apply.Installed.{Installed}
-use Rattle.tables.proofs.ByHand.{add-address-law, drop-address-law, add-route-law, drop-route-law}
 use Rattle.settings.specs.Settings.{maximumOf}
 use Rattle.lease.specs.Leases.{nothing}
-use Rattle.client.specs.Resets.{wasReset}
-use Rattle.lease.specs.Bound.{leaseTimeCode, renewalCode, rebindingCode, replyLease, replyRow, boundBy}
-use Rattle.client.specs.Taken.{processed}
+use Rattle.lease.specs.Bound.{replyLease, replyRow, boundBy}
 use Rattle.client.specs.Taken as taken
-use Rattle.client.specs.Polls.{PolledInto, moved, polled}
+use Rattle.client.specs.Polls.{PolledInto, moved, polledWith}
 use Rattle.settings.specs.declared.settings.Settings.{Settings}
 use Rattle.client.specs.declared.client.Client.{Client}
-use Rattle.client.specs.declared.process.Processed.{Processed}
-use Rattle.client.specs.declared.process.ReplyOutcome.{ReplyOutcome}
-use Rattle.client.specs.declared.process.ReplyOutcome.the-variants as reply
-use Rattle.client.specs.declared.reset.ResetOutcome.{ResetOutcome}
-use Rattle.client.specs.declared.reset.ResetOutcome.the-variants as reset
-use Rattle.client.proofs.Unchanged.{wasTaken, wasMade, refused-kept}
-use Rattle.judge.proofs.Verdicts.{begun}
-use Rattle.client.proofs.Effects.{Entered, gives, Settles, reset-settles, reset-clears, Given, Became, unmoved, offered, was-acked, was-cleared, reply-effect, Fitting, moved-settles}
+use Rattle.client.proofs.Effects.{Entered, gives, Settles, Given, Fitting, moved-settles}
 use Rattle.client.proofs.Polling.{polled-cases}
-use Rattle.run.specs.Calls.{Manual, AddAddress, DropAddress, AddRoute, DropRoute, changedBy}
-use Rattle.run.specs.Demand3.{OfPoll, OfReply, OfReset, givenBy, Event, Acked, Cleared, acceptedAs, accepted, events, History, NoAck, Held, older, expired, notedAll, isHeld, heldBy, Lost, lostBy, lostAll, Since, since, later, isPolled, inTime, counted}
+use Rattle.run.specs.Demand3.{givenBy, Event, Acked, Cleared, pollTells, Done, History, NoAck, Held, older, expired, notedAll, isHeld, heldBy, Lost, lostBy, lostAll, Since, since, later, isPolled, inTime, counted}
 use Rattle.run.proofs.Polls.{Outcome, refuses, idles, moves, outcome}
-use Rattle.run.proofs.Agreement.{agree-later, agree-same, dated-by-later, dated-unset, Timing, timing, dated-anew, lease-is, held-on, none-held, ahead-held, fitting, Agree, DatedBy, in-time, late}
-use Rattle.run.proofs.Entries.{Tab, tab-kept, tab-none, tab-acked, routed, own-in, dhcp-in}
+use Rattle.run.proofs.Agreement.{agree-later, agree-same, dated-by-later, Timing, timing, Began, dated-anew, Leaseless, leaseless-timers, leaseless-shows, leaseless-dated, leaseless-agrees, leaseless-none, lease-is, held-on, none-held, ahead-held, fitting, Agree, DatedBy, in-time, late}
+use Rattle.run.proofs.Entries.{Tab, tab-kept, tab-none, tab-acked}
 
 -- At t, gp after the last poll that was not refused.
 pub record Inv (s : Settings) (gp : Since) (t : ℕ) (c : Client) (tb : Tables) (h : History) (lost : Lost) : Type 0 where
   pub x : Timers
-  pub shows : Shows x (c .state)
+  pub shows : Shows x (c .session .state)
   pub dated : DatedBy gp t x
   pub agrees : Agree t h x
   pub settings-are : c .settings ≡ s
@@ -79,29 +68,6 @@ inv-later s gp t y c tb h lost i =
       tab = rw (held-older y h) (i .tab);
     }
 
--- what a reply that is accepted is to the history, by its message type
-offer-accepted : (s : Settings) (bytes : List ℕ) → accepted s bytes (Some offer) ≡ []
-unfolding acceptedAs if_then_else_
-offer-accepted s bytes = refl
-
-ack-accepted : (s : Settings) (bytes : List ℕ) → accepted s bytes (Some ack) ≡ Acked (replyLease (maximumOf s) bytes) (givenBy bytes) ∷ []
-unfolding acceptedAs if_then_else_
-ack-accepted s bytes = refl
-
-nak-accepted : (s : Settings) (bytes : List ℕ) → accepted s bytes (Some nak) ≡ Cleared ∷ []
-unfolding acceptedAs if_then_else_
-nak-accepted s bytes = refl
-
-taken-events : (s : Settings) (bytes : List ℕ) (o : ReplyOutcome) → wasTaken o ≡ true → {kind : ℕ} → messageType bytes ≡ Some kind → events s (OfReply bytes o) ≡ accepted s bytes (Some kind)
-taken-events s bytes (reply.Taken p) e f = ap (accepted s bytes) f
-taken-events s bytes (reply.PassedOver n) e f = absurd (false≢true e)
-taken-events s bytes (reply.Refused n) e f = absurd (false≢true e)
-
-untaken-events : (s : Settings) (bytes : List ℕ) (o : ReplyOutcome) → wasTaken o ≡ false → events s (OfReply bytes o) ≡ []
-untaken-events s bytes (reply.Taken p) e = absurd (false≢true (sym e))
-untaken-events s bytes (reply.PassedOver n) e = refl
-untaken-events s bytes (reply.Refused n) e = refl
-
 -- what an ACK gives is what its bytes say
 given-by : (bytes : List ℕ) (i : Installed) → Given bytes i → i ≡ givenBy bytes
 given-by bytes i g =
@@ -114,7 +80,7 @@ module _ (s : Settings) (gp : Since) (t : ℕ) (c : Client) (tb : Tables) (g : R
   Step vs c′ tb′ = Inv s (counted (isPolled vs) gp) t c′ tb′ (notedAll vs h) (lostAll tb vs h lost)
 
   -- the lease stays, or is gone
-  goes-on : (x′ : Timers) {c′ : Client} {tb′ : Tables} (gp′ : Since) → Shows x′ (c′ .state) → DatedBy gp′ t x′ → Agree t h x′ → Settles c tb c′ tb′ → gives c′ ≡ gives c → Inv s gp′ t c′ tb′ h lost
+  goes-on : (x′ : Timers) {c′ : Client} {tb′ : Tables} (gp′ : Since) → Shows x′ (c′ .session .state) → DatedBy gp′ t x′ → Agree t h x′ → Settles c tb c′ tb′ → gives c′ ≡ gives c → Inv s gp′ t c′ tb′ h lost
   goes-on x′ {c′} {tb′} gp′ sh d a n e =
       record {
         x = x′;
@@ -126,7 +92,7 @@ module _ (s : Settings) (gp : Since) (t : ℕ) (c : Client) (tb : Tables) (g : R
         tab = tab-kept tb tb′ lost (heldBy h) (subst (λ (k : Installed). Entered tb tb′ k k) (i .given-is) (subst (Entered tb tb′ (gives c)) e (n .entries))) (i .tab);
       }
 
-  ends : (x′ : Timers) {c′ : Client} {tb′ : Tables} (gp′ : Since) → Shows x′ (c′ .state) → DatedBy gp′ t x′ → Agree t NoAck x′ → Settles c tb c′ tb′ → gives c′ ≡ nothing → Inv s gp′ t c′ tb′ NoAck lost
+  ends : (x′ : Timers) {c′ : Client} {tb′ : Tables} (gp′ : Since) → Shows x′ (c′ .session .state) → DatedBy gp′ t x′ → Agree t NoAck x′ → Settles c tb c′ tb′ → gives c′ ≡ nothing → Inv s gp′ t c′ tb′ NoAck lost
   ends x′ {c′} {tb′} gp′ sh d a n e =
       record {
         x = x′;
@@ -139,18 +105,15 @@ module _ (s : Settings) (gp : Since) (t : ℕ) (c : Client) (tb : Tables) (g : R
       }
 
   -- by the state it is seen what a client gives without a lease
-  gives-none : (c′ : Client) (state : ClientState) → c′ .state ≡ state → hasLease state ≡ false → gives c′ ≡ nothing
+  gives-none : (c′ : Client) (state : ClientState) → c′ .session .state ≡ state → hasLease state ≡ false → gives c′ ≡ nothing
   unfolding taken.heldBy
   gives-none c′ state e f = sym (if-false _ (ap hasLease e ∙ f) refl)
 
-  clears : {c′ : Client} {tb′ : Tables} → c′ .state ≡ Init → Settles c tb c′ tb′ → Inv s gp t c′ tb′ NoAck lost
-  clears {c′} e n = ends unset gp (subst⁻¹ (Shows unset) e init) (dated-unset gp t) tt n (gives-none c′ Init e refl)
-
   -- A POLL
   abbrev PollStep : PolledInto → Type 0
-  PollStep r = inTime (isPolled (events s (OfPoll (r .polled .outcome)))) gp → Step (events s (OfPoll (r .polled .outcome))) (r .polled .client) (r .polled .tables)
+  PollStep r = inTime (isPolled (pollTells (r .polled .outcome))) gp → Step (pollTells (r .polled .outcome)) (r .polled .client) (r .polled .tables)
 
-  gives-same : (state : ClientState) → hasLease (c .state) ≡ true → hasLease state ≡ true → taken.heldBy state (c .lease) ≡ gives c
+  gives-same : (state : ClientState) → hasLease (c .session .state) ≡ true → hasLease state ≡ true → taken.heldBy state (c .lease) ≡ gives c
   unfolding taken.heldBy
   gives-same state e f = sym (if-true _ f refl) ∙ if-true _ e refl
 
@@ -167,7 +130,7 @@ module _ (s : Settings) (gp : Since) (t : ℕ) (c : Client) (tb : Tables) (g : R
         rw (held-on t h p q e v k l)
         (goes-on x′ (since 0) sh (ahead-dated t x′ a) (agree-same t h p q e v p′ q′ v′ k) (moved-settles c tb g b now m f) (gives-same (Renewing d) f refl))
 
-    by-outcome : {x : Timers} {r : PolledInto} → Outcome c tb g b t x r → Shows x (c .state) → Agree t h x → PollStep r
+    by-outcome : {x : Timers} {r : PolledInto} → Outcome c tb g b t x r → Shows x (c .session .state) → Agree t h x → PollStep r
     unfolding lostBy
     by-outcome refuses sh k l = i
     by-outcome {x} (idles e a v) sh k l =
@@ -184,23 +147,38 @@ module _ (s : Settings) (gp : Since) (t : ℕ) (c : Client) (tb : Tables) (g : R
         })
     by-outcome (moves {m} x′ e go sh a p v) old k l = moved-step (moment m) go (fitting old go c refl) k sh a
 
-  pub poll-step : (w : Waits) → InRange w → (b : List ℕ) → PollStep (polled w c tb g (moment (wrap t)) b)
+  pub poll-step : (w : Waits) → InRange w → (b : List ℕ) → PollStep (polledWith w c tb g (moment (wrap t)) b)
   poll-step w z b = by (timing gp t (i .x) (i .dated))
     where
-      by : Timing gp t (i .x) → PollStep (polled w c tb g (moment (wrap t)) b)
+      by : Timing gp t (i .x) → PollStep (polledWith w c tb g (moment (wrap t)) b)
       by (in-time n) = by-outcome b (outcome c tb g b w z t (i .x) (i .shows) n) (i .shows) (i .agrees)
       by (late f) = polled-cases c tb g b PollStep (λ n l. i) (λ m l. absurd (f l)) (λ m q l. absurd (f l)) w (moment (wrap t))
 
-  -- A REPLY
-  lease-none : hasLease (c .state) ≡ false → (r : ℕ) → Agree t h (single r)
-  lease-none e r = by h (sym (lease-is t h (i .x) (c .state) (i .shows) (i .agrees)) ∙ e)
-    where
-      by : (h : History) → isHeld h ≡ false → Agree t h (single r)
-      by NoAck f = tt
-      by (Held l age k) f = absurd (false≢true (sym f))
-
+  -- A DEED, sorted by what it is to the run.
   abbrev lease : List ℕ → ℕ
   lease bytes = replyLease (maximumOf s) bytes
+
+  pub data Effect : Done → Type 0 where
+    -- the client as it was, and DHCP's entries
+    keeps : {r : Done} → r .tells ≡ [] → r .client ≡ c → dhcpAddrs (r .tables) ≡ dhcpAddrs tb → dhcpRoutes (r .tables) ≡ dhcpRoutes tb → Effect r
+    -- from no lease to no lease, as an OFFER
+    goes : {r : Done} → r .tells ≡ [] → hasLease (c .session .state) ≡ false → Leaseless gp t (r .client .session .state) → Settles c tb (r .client) (r .tables) → Effect r
+    -- from any state to no lease, as a NAK or a reset
+    clears : {r : Done} → r .tells ≡ Cleared ∷ [] → Leaseless gp t (r .client .session .state) → Settles c tb (r .client) (r .tables) → Effect r
+    -- an ACK
+    binds : {r : Done} (bytes : List ℕ) → r .tells ≡ Acked (lease bytes) (givenBy bytes) ∷ [] → Began gp → r .client .session .state ≡ boundBy (c .settings) bytes (moment (wrap t))
+        → Given bytes (gives (r .client)) → Settles c tb (r .client) (r .tables) → Effect r
+
+  no-lease : hasLease (c .session .state) ≡ false → h ≡ NoAck
+  no-lease e = by h (sym (lease-is t h (i .x) (c .session .state) (i .shows) (i .agrees)) ∙ e)
+    where
+      by : (h : History) → isHeld h ≡ false → h ≡ NoAck
+      by NoAck f = refl
+      by (Held l age k) f = absurd (false≢true (sym f))
+
+  frees : {c′ : Client} {tb′ : Tables} → Leaseless gp t (c′ .session .state) → Settles c tb c′ tb′ → Inv s gp t c′ tb′ NoAck lost
+  frees {c′} n v =
+      ends (leaseless-timers n) gp (leaseless-shows n) (leaseless-dated n) (leaseless-agrees n) v (gives-none c′ (c′ .session .state) refl (leaseless-none n))
 
   abbrev bound : List ℕ → Timers
   bound bytes = leased (t + renewAfter (replyRow bytes (lease bytes)) (lease bytes)) (t + rebindAfter (replyRow bytes (lease bytes)) (lease bytes)) (t + lease bytes) false
@@ -218,7 +196,7 @@ module _ (s : Settings) (gp : Since) (t : ℕ) (c : Client) (tb : Tables) (g : R
       by : (a b l : ℕ) → a < longest → b < longest → l ≤ longest → Dated k t (leased (t + a) (t + b) (t + l) false)
       by a b l p q r = ((omega arith, omega arith), (omega arith, omega arith), (omega arith, omega arith))
 
-  acks : (bytes : List ℕ) {c′ : Client} {tb′ : Tables} → begun (c .state) ≡ true → c′ .state ≡ boundBy (c .settings) bytes (moment (wrap t)) → Given bytes (gives c′) → Settles c tb c′ tb′
+  acks : (bytes : List ℕ) {c′ : Client} {tb′ : Tables} → Began gp → c′ .session .state ≡ boundBy (c .settings) bytes (moment (wrap t)) → Given bytes (gives c′) → Settles c tb c′ tb′
       → Inv s gp t c′ tb′ (Held (lease bytes) 0 (givenBy bytes)) (lostBy tb (Acked (lease bytes) (givenBy bytes)) h lost)
   unfolding lostBy
   acks bytes {c′} {tb′} b e v n =
@@ -226,56 +204,24 @@ module _ (s : Settings) (gp : Since) (t : ℕ) (c : Client) (tb : Tables) (g : R
       record {
         x = bound bytes;
         shows = subst⁻¹ (Shows (bound bytes)) (e ∙ ap (λ (k : Settings). boundBy k bytes (moment (wrap t))) (i .settings-are)) (bound-is bytes);
-        dated = dated-anew gp t (i .x) (c .state) (i .shows) (i .dated) b (bound bytes) (bound-dated bytes);
+        dated = dated-anew gp t b (bound bytes) (bound-dated bytes);
         agrees = omega arith;
         settings-are = n .settings ∙ i .settings-are;
         given-is = q;
         tab =
             tab-acked tb tb′ lost (lease bytes) h (givenBy bytes)
             (subst (λ (k : Installed). Entered tb tb′ k (givenBy bytes)) (i .given-is) (subst (Entered tb tb′ (gives c)) q (n .entries)))
-            (routed (addressOf (optionData routerCode bytes))) (i .tab);
+            (i .tab);
       }
 
-  abbrev ReplyStep : List ℕ → Processed → Type 0
-  ReplyStep bytes r = Step (events s (OfReply bytes (r .outcome))) (r .client) (r .tables)
-
-  by-reply : (bytes : List ℕ) (r : Processed) → Became c tb bytes (moment (wrap t)) r → Settles c tb (r .client) (r .tables) → ReplyStep bytes r
+  pub effect-step : {r : Done} → Effect r → Step (r .tells) (r .client) (r .tables)
   unfolding lostBy
-  by-reply bytes r (unmoved o e f) n =
-      subst⁻¹ (λ (vs : List Event). Step vs (r .client) (r .tables)) (untaken-events s bytes (r .outcome) o) (rw (e, f) i)
-  by-reply bytes r (offered server address o k l b e) n =
-      subst⁻¹ (λ (vs : List Event). Step vs (r .client) (r .tables)) (taken-events s bytes (r .outcome) o k ∙ offer-accepted s bytes)
-      (goes-on (single t) gp (subst⁻¹ (Shows (single t)) e (requesting-shows refl))
-      (dated-anew gp t (i .x) (c .state) (i .shows) (i .dated) b (single t) (λ k. (omega arith, omega arith))) (lease-none l t) n
-      (gives-none (r .client) (requesting server address (moment (wrap t))) e refl ∙ sym (gives-none c (c .state) refl l)))
-  by-reply bytes r (was-acked o k b e v) n =
-      subst⁻¹ (λ (vs : List Event). Step vs (r .client) (r .tables)) (taken-events s bytes (r .outcome) o k ∙ ack-accepted s bytes) (acks bytes b e v n)
-  by-reply bytes r (was-cleared o k e) n =
-      subst⁻¹ (λ (vs : List Event). Step vs (r .client) (r .tables)) (taken-events s bytes (r .outcome) o k ∙ nak-accepted s bytes) (clears e n)
-
-  pub reply-step : (source : ℕ) (bytes : List ℕ) → ReplyStep bytes (processed c tb source bytes (moment (wrap t)))
-  reply-step source bytes =
-      let k = reply-effect c tb bytes (moment (wrap t)) source in
-      by-reply bytes (processed c tb source bytes (moment (wrap t))) (k .0) (k .1)
-
-  -- A RESET
-  pub reset-step : Step (events s (OfReset (wasReset c tb .outcome))) (wasReset c tb .client) (wasReset c tb .tables)
-  unfolding lostBy
-  reset-step = by (wasReset c tb .outcome) refl
-    where
-      by : (o : ResetOutcome) → wasReset c tb .outcome ≡ o → Step (events s (OfReset o)) (wasReset c tb .client) (wasReset c tb .tables)
-      by (reset.Done p) e = clears (reset-clears c tb (ap wasMade e)) (reset-settles c tb)
-      by (reset.Refused n) e = let k = refused-kept c tb (ap wasMade e) in rw (k .0, k .1) i
-
-  -- A MANUAL CALL
-  pub hand-step : (m : Manual) → Inv s gp t c (changedBy m tb .tables) h lost
-  hand-step m = record { x = i .x; shows = i .shows; dated = i .dated; agrees = i .agrees; settings-are = i .settings-are; given-is = i .given-is; tab = by m }
-    where
-      kept : {tb′ : Tables} → dhcpAddrs tb′ ≡ dhcpAddrs tb → dhcpRoutes tb′ ≡ dhcpRoutes tb → Tab tb′ lost (heldBy h)
-      kept e f = record { addrs = e ∙ i .tab .addrs; routes = f ∙ i .tab .routes }
-
-      by : (m : Manual) → Tab (changedBy m tb .tables) lost (heldBy h)
-      by (AddAddress a p) = let k = add-address-law tb a p in kept (k .own) (ap dhcp-in (k .routes))
-      by (DropAddress a p) = let k = drop-address-law tb a p in kept (k .own) (ap dhcp-in (k .routes))
-      by (AddRoute n p r) = let k = add-route-law tb n p r in kept (ap own-in (k .addrs)) (k .own)
-      by (DropRoute n p r) = let k = drop-route-law tb n p r in kept (ap own-in (k .addrs)) (k .own)
+  effect-step {r} (keeps e f a b) =
+      subst⁻¹ (λ (vs : List Event). Step vs (r .client) (r .tables)) e
+      (subst⁻¹ (λ (k : Client). Inv s gp t k (r .tables) h lost) f
+      (record { x = i .x; shows = i .shows; dated = i .dated; agrees = i .agrees; settings-are = i .settings-are; given-is = i .given-is; tab = record { addrs = a ∙ i .tab .addrs; routes = b ∙ i .tab .routes } }))
+  effect-step {r} (goes e l n v) =
+      subst⁻¹ (λ (vs : List Event). Step vs (r .client) (r .tables)) e
+      (subst⁻¹ (λ (k : History). Inv s gp t (r .client) (r .tables) k lost) (no-lease l) (frees n v))
+  effect-step {r} (clears e n v) = subst⁻¹ (λ (vs : List Event). Step vs (r .client) (r .tables)) e (frees n v)
+  effect-step {r} (binds bytes e b f g v) = subst⁻¹ (λ (vs : List Event). Step vs (r .client) (r .tables)) e (acks bytes b f g v)

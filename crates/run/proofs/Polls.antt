@@ -11,16 +11,16 @@ use Rattle.clock.specs.Moments.{wrap, moment}
 use Rattle.clock.specs.declared.instant.Instant.{Instant}
 use Rattle.clock.specs.declared.rand.Rand.{Rand}
 use Rattle.clock.specs.declared.waits.Waits.{Waits}
-use Rattle.clock.proofs.Choices.{if-true, if-false, if-cases}
-use Rattle.machine.specs.Polling.{decided, following, InRange}
-use Rattle.machine.specs.declared.poll.Sending.{Sending}
-use Rattle.machine.specs.declared.poll.Due.the-variants.{Send}
-use Rattle.machine.specs.declared.poll.Decision.{Decision}
+use Rattle.choice.proofs.Choices.{if-true, if-false, if-cases}
+use Rattle.machine.specs.Decisions.{decided, following, InRange}
+use Rattle.machine.specs.declared.decide.Sending.{Sending}
+use Rattle.machine.specs.declared.decide.Due.the-variants.{Send}
+use Rattle.machine.specs.declared.decide.Decision.{Decision}
 use Rattle.machine.proofs.Timers.{Timers, Shows, Near, Ahead, soonest, wakeAt}
 use Rattle.machine.proofs.Decisions.{Goes, Decides, nothing, sending, decides}
 use Rattle.tables.specs.declared.tables.Tables.{Tables}
-use Rattle.client.specs.Resets.{wholeAll}
-use Rattle.client.specs.Polls.{PolledInto, datagramOf, refusedBy, passedBy, moved, tooShort, sent, polledBy, polled}
+use Rattle.client.specs.Clients.{wholeAll}
+use Rattle.client.specs.Polls.{PolledInto, datagramOf, refusedBy, passedBy, moved, tooShort, sent, polledBy, polledWith}
 use Rattle.client.specs.declared.client.Client.{Client}
 use Rattle.client.proofs.Polling.{sent-cases}
 use Rattle.run.specs.Demand3.{Enough, Builds}
@@ -36,11 +36,11 @@ module _ (c : Client) (t : Tables) (g : Rand) (b : List ℕ) where
   by-decision u x h d (nothing e a) = idles e a h
   by-decision u x h d (sending {m} {s} x′ e go sh a l) = sent-cases c t g b (Outcome u x) refuses (moment m) s (moves x′ e go sh a l h)
 
-  pub outcome : (w : Waits) → InRange w → (u : ℕ) (x : Timers) → Shows x (c .state) → Near u x → Outcome u x (polled w c t g (moment (wrap u)) b)
-  unfolding polled
+  pub outcome : (w : Waits) → InRange w → (u : ℕ) (x : Timers) → Shows x (c .session .state) → Near u x → Outcome u x (polledWith w c t g (moment (wrap u)) b)
+  unfolding polledWith
   outcome w z u x sh n =
       if-cases (Outcome u x) (not (wholeAll c t)) (λ e. refuses)
-      (λ e. by-decision u x (not-false _ e) (decided w (c .state) (wrap u)) (decides w z u x (c .state) sh n))
+      (λ e. by-decision u x (not-false _ e) (decided w (c .session .state) (wrap u)) (decides w z u x (c .session .state) sh n))
 
 -- A buffer is too short for n octets, or enough for them.
 pub enough-or-short : (n : ℕ) (b : List ℕ) → Enough n b → tooShort b n ≡ false
