@@ -1,30 +1,33 @@
 // The calls of a case, each on the post as it was at its stage.
-use crate::made::created;
+use crate::made::MOMENT;
+use crate::made::Post;
 use crate::made::settings;
 use crate::reply::MOST;
 use crate::reply::SERVER;
 use crate::sum::Sum;
+use client::Client;
+use clock::Duration;
 use clock::Instant;
 use octets::span::put_bytes_at;
-use run::ChangedPost;
-use run::Post;
-use std::num::wrapping_add_u32;
+use tables::Changed;
+use tables::Tables;
 
-// A turn's moment.
-fn at_turn(now: Instant, turn: u64) -> Instant {
-    Instant {
-        millis: wrapping_add_u32(now.millis, (turn % 8) as u32),
-    }
+// A turn's moment, so many milliseconds after the last call of its stage and up to 7 more.
+fn at_turn(turn: u64, step: u32) -> Instant {
+    MOMENT
+        .add(Duration {
+            millis: (turn % 8) as u32,
+        })
+        .add(Duration { millis: step })
 }
 
-// What a post holds that a call can change.
-fn left(sum: Sum, post: Post) -> Sum {
-    let client = post.client;
-    let tables = post.tables;
-    let state = client.state;
+// What of a client and its tables a call can change.
+fn left(sum: Sum, client: Client, tables: Tables) -> Sum {
+    let session = client.session;
+    let state = session.state;
     sum.held(
             state,
-            client.transaction_id,
+            session.transaction_id,
             client.lease.address,
             client.lease.options.len,
         )
@@ -37,14 +40,11 @@ fn left(sum: Sum, post: Post) -> Sum {
 
 // No call: what a turn costs by itself.
 pub fn none(post: Post, turns: u64) {
-    let mut held = post;
-    let now = post.now;
     let mut sum = Sum::new();
     let mut turn = 0;
     while turn < turns {
-        let moment = at_turn(now, turn);
-        held.now = moment;
-        sum = left(sum, held).with(moment.millis);
+        let moment = at_turn(turn, 0);
+        sum = left(sum, post.client, post.tables).with(moment.millis);
         turn += 1;
     }
     sum.print();
@@ -63,20 +63,17 @@ pub fn polls_in(post: Post, step: u32, room: usize, turns: u64) {
 }
 
 fn polls(post: Post, step: u32, buf: &mut [u8], turns: u64) {
-    let mut held = post;
-    let now = post.now;
+    let mut rand = post.rand;
     let mut sum = Sum::new();
     let mut turn = 0;
     while turn < turns {
-        let moment = at_turn(now, turn);
+        let moment = at_turn(turn, step);
         turn += 1;
-        held.now = moment;
-        let polled = held.poll(step, buf);
-        let after = polled.post;
+        let polled = post.client.poll(post.tables, rand, moment, buf);
         let outcome = polled.outcome;
-        let rand = after.rand;
-        held.rand = rand;
-        sum = left(sum, after).polled(outcome).written(buf);
+        rand = polled.rand;
+        sum = left(sum, polled.client, polled.tables).polled(outcome)
+            .written(buf);
     }
     sum.print();
 }
@@ -89,50 +86,41 @@ pub fn replies_in(post: Post, made: [u8; MOST], length: usize, turns: u64) {
 }
 
 fn replies(post: Post, reply: &mut [u8], turns: u64) {
-    let mut held = post;
-    let now = post.now;
     let mut sum = Sum::new();
     let mut turn = 0;
     while turn < turns {
-        let moment = at_turn(now, turn);
+        let moment = at_turn(turn, 20);
         put_bytes_at(reply, 8, &[(turn % 256) as u8]);
         turn += 1;
-        held.now = moment;
-        let replied = held.process(20, SERVER, reply);
-        let after = replied.post;
-        let outcome = replied.outcome;
-        sum = left(sum, after).replied(outcome);
+        let processed = post.client.process(post.tables, SERVER, reply, moment);
+        let outcome = processed.outcome;
+        sum = left(sum, processed.client, processed.tables).replied(outcome);
     }
     sum.print();
 }
 
 pub fn creations(turns: u64) {
     let mut settings = settings();
+    let tables = Tables::new();
     let mut sum = Sum::new();
     let mut turn = 0;
     while turn < turns {
         settings.hardware[5] = (turn % 256) as u8;
-        let created = created(settings, turn);
-        let after = created.post;
+        let created = Client::new(settings, false);
         let outcome = created.outcome;
-        sum = left(sum, after).done(outcome);
+        sum = left(sum, created.client, tables).done(outcome);
         turn += 1;
     }
     sum.print();
 }
 
 pub fn resets(post: Post, turns: u64) {
-    let mut held = post;
-    let now = post.now;
     let mut sum = Sum::new();
     let mut turn = 0;
     while turn < turns {
-        let moment = at_turn(now, turn);
-        held.now = moment;
-        let was = held.reset(0);
-        let after = was.post;
+        let was = post.client.reset(post.tables);
         let outcome = was.outcome;
-        sum = left(sum, after).was_reset(outcome);
+        sum = left(sum, was.client, was.tables).was_reset(outcome);
         turn += 1;
     }
     sum.print();
@@ -140,31 +128,26 @@ pub fn resets(post: Post, turns: u64) {
 
 // Manual calls: 3, an address is added; 4, dropped; 5, a route is added; 6, dropped.
 pub fn changes(post: Post, kind: u64, turns: u64) {
-    let mut held = post;
-    let now = post.now;
     let mut sum = Sum::new();
     let mut turn = 0;
     while turn < turns {
-        let moment = at_turn(now, turn);
-        held.now = moment;
-        let changed = change(held, kind, 0xc0a80000 + (turn % 256) as u32);
-        let after = changed.post;
+        let changed = change(post.tables, kind, 0xc0a80000 + (turn % 256) as u32);
         let outcome = changed.outcome;
-        sum = left(sum, after).done(outcome);
+        sum = left(sum, post.client, changed.tables).done(outcome);
         turn += 1;
     }
     sum.print();
 }
 
-fn change(post: Post, kind: u64, address: u32) -> ChangedPost {
+fn change(tables: Tables, kind: u64, address: u32) -> Changed {
     if kind == 3 {
-        return post.add_address(0, address, 24);
+        return tables.add_address(address, 24);
     }
     if kind == 4 {
-        return post.drop_address(0, address, 24);
+        return tables.drop_address(address, 24);
     }
     if kind == 5 {
-        return post.add_route(0, address, 24, 0x0a000001);
+        return tables.add_route(address, 24, 0x0a000001);
     }
-    post.drop_route(0, address, 24, 0x0a000001)
+    tables.drop_route(address, 24, 0x0a000001)
 }

@@ -6,6 +6,7 @@ use crate::calls::polls_in;
 use crate::calls::replies_in;
 use crate::calls::resets;
 use crate::made::at_stage;
+use crate::made::id_of;
 use libc::STDOUT_FILENO;
 use trace::begins;
 use trace::read_record;
@@ -48,7 +49,7 @@ fn process(line: &[u8]) {
         b"process stage %c kind %c length %h from %h fill %c %c number %c turns %w",
     ).values;
     let post = at_stage(v[0]);
-    let mut reply = crate::reply::made(post.client.transaction_id, octet(v[1]), size(v[2]));
+    let mut reply = crate::reply::made(id_of(post.client), octet(v[1]), size(v[2]));
     crate::reply::fill(&mut reply, size(v[3]), size(v[4]), octet(v[5]));
     replies_in(post, reply, size(v[2]), v[7]);
 }

@@ -1,34 +1,27 @@
 // The post of a case, at its stage.
-use crate::reply::ACK;
-use crate::reply::OFFER;
 use crate::reply::SERVER;
 use crate::reply::made;
+use client::Client;
 use clock::Duration;
 use clock::Instant;
 use clock::Rand;
+use octets::codes::ACK;
+use octets::codes::OFFER;
 use octets::span::put_bytes_at;
 use octets::span::up_to;
-use run::CreatedPost;
-use run::Post;
 use settings::Medium;
 use settings::Settings;
 use tables::Tables;
 
 const SEED: u64 = 20260401;
 
-const FIRST_MOMENT: u32 = 4000000000;
+// When a case's calls are made, but for up to 7 ms and the step of a poll.
+pub const MOMENT: Instant = Instant { millis: 4000000000 };
 
-// Its tables are empty, and it heeds NAKs.
-pub fn created(settings: Settings, seed: u64) -> CreatedPost {
-    Post::new(
-        settings,
-        false,
-        Tables::new(),
-        Rand::new(seed),
-        Instant {
-            millis: FIRST_MOMENT,
-        },
-    )
+pub struct Post {
+    pub client: Client,
+    pub tables: Tables,
+    pub rand: Rand,
 }
 
 // Hardware address 02:00:00:00:00:11, MTU 1,500, name pitch-17, and no request list, extra options or maximum.
@@ -52,10 +45,9 @@ pub fn settings() -> Settings {
     }
 }
 
-// A fresh post after so many of these calls: a poll, an OFFER, a poll, an ACK.
+// A fresh post after so many of these calls: a poll, an OFFER, a poll, an ACK. Its tables are empty at first, and it heeds NAKs.
 pub fn at_stage(stage: u64) -> Post {
-    let created = created(settings(), SEED);
-    let mut post = created.post;
+    let mut post = fresh();
     let mut n = 0;
     while n < stage {
         if n == 4 {
@@ -67,6 +59,16 @@ pub fn at_stage(stage: u64) -> Post {
     post
 }
 
+fn fresh() -> Post {
+    let created = Client::new(settings(), false);
+    let client = created.client;
+    Post {
+        client,
+        tables: Tables::new(),
+        rand: Rand::new(SEED),
+    }
+}
+
 fn after_call(post: Post, n: u64) -> Post {
     if n == 1 {
         return replied(post, OFFER);
@@ -74,13 +76,37 @@ fn after_call(post: Post, n: u64) -> Post {
     if n == 3 {
         return replied(post, ACK);
     }
+    polled(post)
+}
+
+fn polled(post: Post) -> Post {
     let mut buf = [0u8; 600];
-    let polled = post.poll(0, &mut buf);
-    polled.post
+    let polled = post.client.poll(post.tables, post.rand, MOMENT, &mut buf);
+    let client = polled.client;
+    let tables = polled.tables;
+    let rand = polled.rand;
+    Post {
+        client,
+        tables,
+        rand,
+    }
 }
 
 fn replied(post: Post, kind: u8) -> Post {
-    let reply = made(post.client.transaction_id, kind, 300);
-    let replied = post.process(0, SERVER, up_to(&reply, 300));
-    replied.post
+    let reply = made(id_of(post.client), kind, 300);
+    let processed = post.client
+        .process(post.tables, SERVER, up_to(&reply, 300), MOMENT);
+    let client = processed.client;
+    let tables = processed.tables;
+    let rand = post.rand;
+    Post {
+        client,
+        tables,
+        rand,
+    }
+}
+
+// Of the message that a reply answers.
+pub fn id_of(client: Client) -> u32 {
+    client.session.transaction_id
 }

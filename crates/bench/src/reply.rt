@@ -5,10 +5,6 @@ use octets::word::write_u32;
 // 10.0.0.9, where they come from; the identifier in them is 10.0.0.1.
 pub const SERVER: u32 = 0x0a000009;
 
-pub const OFFER: u8 = 2;
-
-pub const ACK: u8 = 5;
-
 // Octets of the longest reply.
 pub const MOST: usize = 540;
 

@@ -72,7 +72,8 @@ pub fn was_reset(outcome: ResetOutcome) -> [u32; 16] {
 
 // The option in the lease's store, none in a state without a lease.
 pub fn got(client: Client, kind: u8) -> [u32; 16] {
-    let state = client.state;
+    let session = client.session;
+    let state = session.state;
     let lease = client.lease;
     let options = lease.options;
     if state.has_lease() {

@@ -15,12 +15,17 @@ use crate::forms::octets_at;
 use crate::lent::lend;
 use crate::look::mask;
 use crate::look::option;
-use crate::made::post_of;
+use crate::made::client_of;
+use crate::made::moment_after;
+use crate::made::rand_of;
+use crate::made::tables_of;
 use crate::told::put_answer;
+use crate::told::put_generator;
 use crate::write;
+use client::Client;
 use octets::span::up_to;
-use run::ChangedPost;
-use run::Post;
+use tables::Changed;
+use tables::Tables;
 
 // Makes a call; `lent` is room for a buffer or a reply.
 pub fn call(
@@ -37,14 +42,11 @@ pub fn call(
     }
     if form == NEW {
         create(sheet);
-        let next = write::first(out, at, sheet);
-        let end = write::settings(out, next, sheet);
-        return write::post(out, end, sheet);
+        return write::created(out, at, sheet);
     }
     if form < MASK {
         other(sheet, lent, line, form, v);
-        let next = write::first(out, at, sheet);
-        return write::post(out, next, sheet);
+        return write::answer(out, at, sheet);
     }
     if form == OPTION {
         return option(sheet, lent, out, at, line, v);
@@ -64,16 +66,22 @@ fn poll(sheet: &mut [u8], lent: &mut [u8], out: &mut [u8], at: usize, v: [u32; 1
 fn poll_with(sheet: &mut [u8], lent: &mut [u8], out: &mut [u8], at: usize, v: [u32; 16]) -> usize {
     lend(lent, v[2]);
     poll_in(sheet, v[0], lent);
-    let next = write::first(out, at, sheet);
-    let end = write::sent(out, next, sheet, lent, v[2]);
-    write::post(out, end, sheet)
+    write::polled(out, at, sheet, lent, v[2])
 }
 
 fn poll_in(sheet: &mut [u8], step: u32, lent: &mut [u8]) {
-    let post = post_of(sheet);
-    let polled = post.poll(step, lent);
+    let moment = moment_after(sheet, step);
+    let client = client_of(sheet);
+    let polled = client.poll(tables_of(sheet), rand_of(sheet), moment, lent);
     let outcome = polled.outcome;
-    put_answer(sheet, polled.post, answer::polled(outcome));
+    put_answer(
+        sheet,
+        polled.client,
+        polled.tables,
+        moment,
+        answer::polled(outcome),
+    );
+    put_generator(sheet, polled.rand);
     put_sent(sheet, outcome);
 }
 
@@ -90,58 +98,87 @@ fn other(sheet: &mut [u8], lent: &mut [u8], line: &[u8], form: usize, v: [u32; 1
     change(sheet, form, v)
 }
 
+// A creation has no step.
 fn create(sheet: &mut [u8]) {
-    let post = post_of(sheet);
-    let client = post.client;
-    let created = Post::new(
-        client.settings,
-        client.ignore_naks,
-        post.tables,
-        post.rand,
-        post.now,
-    );
+    let moment = moment_after(sheet, 0);
+    let held = client_of(sheet);
+    let tables = tables_of(sheet);
+    let created = Client::new(held.settings, held.ignore_naks);
     let outcome = created.outcome;
-    put_answer(sheet, created.post, answer::created(outcome));
+    put_answer(
+        sheet,
+        created.client,
+        tables,
+        moment,
+        answer::created(outcome),
+    );
 }
 
 fn process(sheet: &mut [u8], lent: &mut [u8], line: &[u8], v: [u32; 16]) {
     let n = octets_at(line, v[2], v[3], lent);
-    let post = post_of(sheet);
-    let replied = post.process(v[0], v[1], up_to(lent, n));
-    let outcome = replied.outcome;
-    put_answer(sheet, replied.post, answer::processed(outcome));
+    process_reply(sheet, v[0], v[1], up_to(lent, n));
+}
+
+fn process_reply(sheet: &mut [u8], step: u32, source: u32, reply: &[u8]) {
+    let moment = moment_after(sheet, step);
+    let client = client_of(sheet);
+    let processed = client.process(tables_of(sheet), source, reply, moment);
+    let outcome = processed.outcome;
+    put_answer(
+        sheet,
+        processed.client,
+        processed.tables,
+        moment,
+        answer::processed(outcome),
+    );
 }
 
 fn reset(sheet: &mut [u8], step: u32) {
-    let post = post_of(sheet);
-    let was = post.reset(step);
+    let moment = moment_after(sheet, step);
+    let client = client_of(sheet);
+    let was = client.reset(tables_of(sheet));
     let outcome = was.outcome;
-    put_answer(sheet, was.post, answer::was_reset(outcome));
+    put_answer(
+        sheet,
+        was.client,
+        was.tables,
+        moment,
+        answer::was_reset(outcome),
+    );
 }
 
 fn change(sheet: &mut [u8], form: usize, v: [u32; 16]) {
-    let changed = changed_by(post_of(sheet), form, v);
+    let moment = moment_after(sheet, v[0]);
+    let client = client_of(sheet);
+    let changed = changed_by(tables_of(sheet), form, v);
     let outcome = changed.outcome;
-    put_answer(sheet, changed.post, answer::changed(outcome));
+    put_answer(
+        sheet,
+        client,
+        changed.tables,
+        moment,
+        answer::changed(outcome),
+    );
 }
 
-fn changed_by(post: Post, form: usize, v: [u32; 16]) -> ChangedPost {
+fn changed_by(tables: Tables, form: usize, v: [u32; 16]) -> Changed {
     let prefix = (v[2] % 256) as u8;
     if form == ADD_ADDRESS {
-        return post.add_address(v[0], v[1], prefix);
+        return tables.add_address(v[1], prefix);
     }
     if form == DROP_ADDRESS {
-        return post.drop_address(v[0], v[1], prefix);
+        return tables.drop_address(v[1], prefix);
     }
     if form == ADD_ROUTE {
-        return post.add_route(v[0], v[1], prefix, v[3]);
+        return tables.add_route(v[1], prefix, v[3]);
     }
-    post.drop_route(v[0], v[1], prefix, v[3])
+    tables.drop_route(v[1], prefix, v[3])
 }
 
 // A record looks at the lease's store alone.
 fn get(sheet: &mut [u8], step: u32, kind: u8) {
-    let post = post_of(sheet);
-    let after = post.later(step);
-    put_answer(sheet, after, answer::got(after.client, kind));
+    let moment = moment_after(sheet, step);
+    let client = client_of(sheet);
+    let tables = tables_of(sheet);
+    put_answer(sheet, client, tables, moment, answer::got(client, kind));
 }

@@ -1,4 +1,4 @@
-// The post that a sheet tells.
+// The post that a sheet tells: moment, generator, client and tables.
 use crate::forms::DISCOVERING;
 use crate::forms::RENEWING;
 use crate::forms::REQUESTING;
@@ -18,6 +18,7 @@ use crate::rows::AT_TABLES;
 use crate::rows::copy_at;
 use crate::rows::row;
 use client::Client;
+use client::Session;
 use clock::Duration;
 use clock::Instant;
 use clock::Rand;
@@ -29,7 +30,6 @@ use machine::RenewState;
 use machine::RequestState;
 use machine::Tries;
 use octets::MaybeNumber;
-use run::Post;
 use settings::Medium;
 use settings::Settings;
 use tables::AddrTable;
@@ -40,18 +40,17 @@ use tables::Tables;
 use wire::Addresses;
 use wire::Store;
 
-pub fn post_of(sheet: &[u8]) -> Post {
+// The moment of a call, so many milliseconds after the last one.
+pub fn moment_after(sheet: &[u8], step: u32) -> Instant {
     let first = row(sheet, AT_FIRST);
+    let last = Instant { millis: first[0] };
+    last.add(Duration { millis: step })
+}
+
+pub fn rand_of(sheet: &[u8]) -> Rand {
     let g = row(sheet, AT_GENERATOR);
-    let client = client_of(sheet);
-    let tables = tables_of(sheet);
-    Post {
-        client,
-        tables,
-        rand: Rand {
-            state: join(g[13], g[0]),
-        },
-        now: Instant { millis: first[0] },
+    Rand {
+        state: join(g[13], g[0]),
     }
 }
 
@@ -59,7 +58,7 @@ pub fn join(high: u32, low: u32) -> u64 {
     high as u64 * 4294967296 + low as u64
 }
 
-fn client_of(sheet: &[u8]) -> Client {
+pub fn client_of(sheet: &[u8]) -> Client {
     let s = row(sheet, AT_SETTINGS);
     let v = row(sheet, AT_STATE);
     let settings = settings_of(sheet, s);
@@ -68,9 +67,11 @@ fn client_of(sheet: &[u8]) -> Client {
     Client {
         settings,
         ignore_naks: s[14] == 1,
-        state,
+        session: Session {
+            state,
+            transaction_id: v[0],
+        },
         lease,
-        transaction_id: v[0],
     }
 }
 
@@ -177,7 +178,7 @@ fn router_of(routed: u32, router: u32) -> MaybeNumber {
     MaybeNumber::None
 }
 
-fn tables_of(sheet: &[u8]) -> Tables {
+pub fn tables_of(sheet: &[u8]) -> Tables {
     let v = row(sheet, AT_TABLES);
     let ip_addrs = addrs_of(row(sheet, AT_ADDRESSES), v[1]);
     let routes = routes_of(row(sheet, AT_ROUTES), v[2]);

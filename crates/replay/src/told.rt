@@ -22,33 +22,47 @@ use crate::rows::AT_STATE;
 use crate::rows::AT_TABLES;
 use crate::rows::put_row;
 use client::Client;
+use clock::Instant;
+use clock::Rand;
 use lease::DhcpLease;
 use machine::ClientState;
 use octets::MaybeNumber;
 use octets::span::put_bytes_at;
-use run::Post;
 use settings::Medium;
 use settings::Settings;
 use tables::AddrTable;
 use tables::RouteTable;
 use tables::Tables;
 
-// The post after a call, and the answer's first line, but for its moment.
-pub fn put_answer(sheet: &mut [u8], post: Post, first: [u32; 16]) {
-    let client = post.client;
-    let state = client.state;
+// Client, tables and moment after a call, and the answer's first line, but for its moment.
+pub fn put_answer(
+    sheet: &mut [u8],
+    client: Client,
+    tables: Tables,
+    moment: Instant,
+    first: [u32; 16],
+) {
     let mut words = first;
-    words[0] = post.now.millis;
+    words[0] = moment.millis;
     put_bytes_at(sheet, AT_SENT, &[0; 64]);
     put_row(sheet, AT_FIRST, words);
-    put_row(sheet, AT_STATE, state_words(state, client.transaction_id));
-    put_row(sheet, AT_GENERATOR, generator_words(post.rand.state));
-    put_tables(sheet, post.tables);
+    put_client(sheet, client);
+    put_tables(sheet, tables);
+}
+
+pub fn put_generator(sheet: &mut [u8], rand: Rand) {
+    put_row(sheet, AT_GENERATOR, generator_words(rand.state));
+}
+
+fn put_client(sheet: &mut [u8], client: Client) {
+    let session = client.session;
+    let state = session.state;
+    put_row(sheet, AT_STATE, state_words(state, session.transaction_id));
     put_lease(sheet, client.lease);
     put_settings(sheet, client.settings, client.ignore_naks);
 }
 
-pub fn state_words(state: ClientState, id: u32) -> [u32; 16] {
+fn state_words(state: ClientState, id: u32) -> [u32; 16] {
     match state {
         ClientState::Init => [id, 0, 0, 0, 0, 0, 0, 0, 0, 0, 0, 0, 0, 0, 0, INIT as u32],
         ClientState::Discovering(s) => [
@@ -137,7 +151,7 @@ fn count(n: usize) -> u32 {
     (n % 4294967296) as u32
 }
 
-pub fn put_lease(sheet: &mut [u8], lease: DhcpLease) {
+fn put_lease(sheet: &mut [u8], lease: DhcpLease) {
     let router = lease.router;
     let dns = lease.dns;
     let d = dns.list;

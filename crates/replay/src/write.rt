@@ -51,18 +51,33 @@ fn wide(v: [u32; 16]) -> [u64; 16] {
     values
 }
 
-// The first line of an answer.
-pub fn first(out: &mut [u8], at: usize, sheet: &[u8]) -> usize {
+// An answer: its first line, and the post as it stands.
+pub fn answer(out: &mut [u8], at: usize, sheet: &[u8]) -> usize {
+    let next = first(out, at, sheet);
+    post(out, next, sheet)
+}
+
+// A creation's, with the settings.
+pub fn created(out: &mut [u8], at: usize, sheet: &[u8]) -> usize {
+    let settings_at = first(out, at, sheet);
+    let next = put_row(out, settings_at, sheet, AT_SETTINGS, SETTINGS);
+    post(out, next, sheet)
+}
+
+// A poll's, with what it sent and the lent buffer.
+pub fn polled(out: &mut [u8], at: usize, sheet: &[u8], lent: &[u8], fill: u32) -> usize {
+    let sent_at = first(out, at, sheet);
+    let next = sent(out, sent_at, sheet, lent, fill);
+    post(out, next, sheet)
+}
+
+fn first(out: &mut [u8], at: usize, sheet: &[u8]) -> usize {
     let v = row(sheet, AT_FIRST);
     put_row(out, at, sheet, AT_FIRST, v[15] as usize)
 }
 
-pub fn settings(out: &mut [u8], at: usize, sheet: &[u8]) -> usize {
-    put_row(out, at, sheet, AT_SETTINGS, SETTINGS)
-}
-
 // What a poll sent, and the lent buffer up to the last octet that is not as it was lent.
-pub fn sent(out: &mut [u8], at: usize, sheet: &[u8], lent: &[u8], fill: u32) -> usize {
+fn sent(out: &mut [u8], at: usize, sheet: &[u8], lent: &[u8], fill: u32) -> usize {
     let v = row(sheet, AT_SENT);
     let next = put_row(out, at, sheet, AT_SENT, SENT);
     let n = largest(v[0] as usize, changed(lent, fill));
@@ -79,7 +94,7 @@ fn largest(a: usize, b: usize) -> usize {
 }
 
 // The post as it stands.
-pub fn post(out: &mut [u8], at: usize, sheet: &[u8]) -> usize {
+fn post(out: &mut [u8], at: usize, sheet: &[u8]) -> usize {
     let lease_at = state(out, at, sheet);
     let tables_at = lease(out, lease_at, sheet);
     let entries_at = put_row(out, tables_at, sheet, AT_TABLES, TABLES);

@@ -1,5 +1,6 @@
 // Clients and replies that the examples begin with.
 use client::Client;
+use client::Session;
 use clock::Duration;
 use clock::Instant;
 use lease::DhcpLease;
@@ -48,9 +49,11 @@ pub fn client(state: ClientState, lease: DhcpLease, maximum: u32) -> Client {
     Client {
         settings,
         ignore_naks: false,
-        state,
+        session: Session {
+            state,
+            transaction_id: 1,
+        },
         lease,
-        transaction_id: 1,
     }
 }
 

@@ -23,7 +23,8 @@ pub fn examples() {
 fn timed(asked: &[u8], maximum: u32, options: &[u8], millis: u32) {
     let reply = ack(options);
     let client = told(&reply, maximum, millis);
-    let state = client.state;
+    let session = client.session;
+    let state = session.state;
     print(asked);
     print_times(state);
     print(b"\n");

@@ -11,6 +11,7 @@ use crate::print::print_created;
 use crate::print::test;
 use crate::same::same_client;
 use client::Client;
+use client::Session;
 use lease::DhcpLease;
 use machine::ClientState;
 use settings::Settings;
@@ -186,9 +187,11 @@ fn created() {
     let expected = Client {
         settings: s,
         ignore_naks: true,
-        state: ClientState::Init,
+        session: Session {
+            state: ClientState::Init,
+            transaction_id: 1,
+        },
         lease: DhcpLease::zero(),
-        transaction_id: 1,
     };
     test(
         b"after creation: Init, id 1, lease all zero, settings as given",
@@ -202,9 +205,11 @@ fn refused() {
     let zero = Client {
         settings: Settings::zero(),
         ignore_naks: false,
-        state: ClientState::Init,
+        session: Session {
+            state: ClientState::Init,
+            transaction_id: 0,
+        },
         lease: DhcpLease::zero(),
-        transaction_id: 0,
     };
     test(
         b"after a refusal the client is all zero",

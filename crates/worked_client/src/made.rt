@@ -1,5 +1,6 @@
 // Settings, clients, tables and a reply that the examples begin with.
 use client::Client;
+use client::Session;
 use clock::Duration;
 use clock::Instant;
 use lease::DhcpLease;
@@ -105,16 +106,13 @@ pub fn client_at(at: At) -> Client {
 }
 
 fn in_state(state: ClientState) -> Client {
-    let client = Client::new(settings(plain()), false).client;
-    let settings = client.settings;
-    let lease = client.lease;
-    Client {
-        settings,
-        ignore_naks: false,
+    let mut client = Client::new(settings(plain()), false).client;
+    let session = Session {
         state,
-        lease,
-        transaction_id: client.transaction_id,
-    }
+        transaction_id: client.session.transaction_id,
+    };
+    client.session = session;
+    client
 }
 
 fn requesting(retry: u16) -> Client {

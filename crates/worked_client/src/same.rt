@@ -8,10 +8,12 @@ use tables::RouteTable;
 use tables::Tables;
 
 pub fn same_client(a: Client, b: Client) -> bool {
-    let x = a.state;
-    let y = b.state;
+    let p = a.session;
+    let q = b.session;
+    let x = p.state;
+    let y = q.state;
     (a.ignore_naks == b.ignore_naks)
-        & (a.transaction_id == b.transaction_id)
+        & (p.transaction_id == q.transaction_id)
         & same_state(x, y)
         & same_settings(a.settings, b.settings)
         & same_lease(a.lease, b.lease)

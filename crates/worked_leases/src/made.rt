@@ -1,5 +1,6 @@
 // Clients, tables and replies that the examples begin with, and a post on which calls are made.
 use client::Client;
+use client::Session;
 use clock::Duration;
 use clock::Instant;
 use lease::DhcpLease;
@@ -55,19 +56,22 @@ pub fn client(post: Post) -> Client {
     Client {
         settings,
         ignore_naks: false,
-        state,
+        session: Session {
+            state,
+            transaction_id: post.id,
+        },
         lease,
-        transaction_id: post.id,
     }
 }
 
 pub fn post_of(client: Client, tables: Tables) -> Post {
-    let state = client.state;
+    let session = client.session;
+    let state = session.state;
     let lease = client.lease;
     Post {
         state,
         lease,
-        id: client.transaction_id,
+        id: session.transaction_id,
         tables,
     }
 }

@@ -3,6 +3,7 @@ use crate::made::SERVER;
 use crate::made::reply;
 use crate::made::settings;
 use crate::made::state;
+use crate::post::Post;
 use crate::print::LENT;
 use crate::print::print_polled;
 use crate::print::print_replied;
@@ -10,7 +11,6 @@ use client::Client;
 use clock::Instant;
 use clock::Rand;
 use octets::number::at_most;
-use run::Post;
 use tables::Tables;
 
 // The post after a line, of which the first letter and the numbers are given.
@@ -19,7 +19,7 @@ pub fn called(post: Post, key: u8, n: [u32; 10]) -> Post {
         b'p' => poll(post, n),
         b'n' => new(n),
         b'O' | b'A' | b'N' => process(post, key, n),
-        _ => set(post, key, n),
+        _ => post.in_state(state(key, n)),
     }
 }
 
@@ -27,46 +27,47 @@ pub fn called(post: Post, key: u8, n: [u32; 10]) -> Post {
 fn poll(post: Post, n: [u32; 10]) -> Post {
     let mut buf = [LENT; 700];
     let at = 700 - at_most(n[1] as usize, 700);
-    let polled = post.poll(n[0], &mut buf[at..]);
-    let after = polled.post;
+    let moment = post.moment_after(n[0]);
+    let polled = post.client
+        .poll(post.tables, post.rand, moment, &mut buf[at..]);
+    let client = polled.client;
+    let tables = polled.tables;
+    let rand = polled.rand;
     let outcome = polled.outcome;
     print_polled(outcome, &buf, at, n[2]);
-    after
+    Post {
+        client,
+        tables,
+        rand,
+        now: moment,
+    }
 }
 
 fn process(post: Post, key: u8, n: [u32; 10]) -> Post {
-    let reply = reply(key, post.client.transaction_id, n);
-    let replied = post.process(n[0], SERVER, &reply);
-    let after = replied.post;
-    let outcome = replied.outcome;
+    let reply = reply(key, post.id(), n);
+    let moment = post.moment_after(n[0]);
+    let processed = post.client.process(post.tables, SERVER, &reply, moment);
+    let client = processed.client;
+    let tables = processed.tables;
+    let rand = post.rand;
+    let outcome = processed.outcome;
     print_replied(outcome);
-    after
+    Post {
+        client,
+        tables,
+        rand,
+        now: moment,
+    }
 }
 
 // A new post: at a moment, with a generator, and settings.
 pub fn new(n: [u32; 10]) -> Post {
-    Post::new(
-        settings(n),
-        false,
-        Tables::new(),
-        Rand { state: n[1] as u64 },
-        Instant { millis: n[0] },
-    ).post
-}
-
-// No call: the client in another state.
-fn set(mut post: Post, key: u8, n: [u32; 10]) -> Post {
-    let held = post.client;
-    let settings = held.settings;
-    let lease = held.lease;
-    let state = state(key, n);
-    let client = Client {
-        settings,
-        ignore_naks: held.ignore_naks,
-        state,
-        lease,
-        transaction_id: held.transaction_id,
-    };
-    post.client = client;
-    post
+    let created = Client::new(settings(n), false);
+    let client = created.client;
+    Post {
+        client,
+        tables: Tables::new(),
+        rand: Rand { state: n[1] as u64 },
+        now: Instant { millis: n[0] },
+    }
 }

@@ -7,14 +7,15 @@
 mod calls;
 mod made;
 mod numbers;
+mod post;
 mod print;
 
 use numbers::first;
 use numbers::numbers_in;
 use octets::span::up_to;
+use post::Post;
 use print::print;
 use print::show;
-use run::Post;
 
 fn main() {
     let mut text = io::large_buffer();

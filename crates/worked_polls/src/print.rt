@@ -1,12 +1,12 @@
 // What is printed behind a line: what came of the call, then the state, then moment, id, the generator's last 32 bits, the
 // lease's address, the generation, and how many entries the tables have.
+use crate::post::Post;
 use client::PollOutcome;
 use client::ReplyOutcome;
 use libc::STDOUT_FILENO;
 use machine::ClientState;
 use octets::MaybeNumber;
 use octets::word::read_u32;
-use run::Post;
 
 // What a lent buffer holds before a poll.
 pub const LENT: u8 = 0xa5;
@@ -103,14 +103,12 @@ pub fn print_replied(outcome: ReplyOutcome) {
 
 // The end of a line: the post. Entries are addresses and routes together.
 pub fn show(post: Post) {
-    let client = post.client;
-    let state = client.state;
-    print_state(state);
+    print_state(post.state());
     print_form(
         b" | at 0, id 1, generator 2 | 5, generation 3, entries 4\n",
         [
             post.now.millis,
-            post.client.transaction_id,
+            post.id(),
             (post.rand.state % 4294967296) as u32,
             post.tables.config_generation,
             entries(post.tables.ip_addrs.count, post.tables.routes.count),

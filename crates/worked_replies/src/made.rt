@@ -1,5 +1,6 @@
 // Settings, clients, tables and replies that the examples begin with.
 use client::Client;
+use client::Session;
 use clock::Duration;
 use clock::Instant;
 use machine::ClientState;
@@ -59,16 +60,13 @@ pub fn client_at(at: At) -> Client {
 }
 
 fn in_state(state: ClientState) -> Client {
-    let client = Client::new(settings(), false).client;
-    let settings = client.settings;
-    let lease = client.lease;
-    Client {
-        settings,
-        ignore_naks: false,
+    let mut client = Client::new(settings(), false).client;
+    let session = Session {
         state,
-        lease,
-        transaction_id: client.transaction_id,
-    }
+        transaction_id: client.session.transaction_id,
+    };
+    client.session = session;
+    client
 }
 
 fn requesting() -> Client {

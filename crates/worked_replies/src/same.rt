@@ -5,11 +5,13 @@ use tables::AddrTable;
 use tables::Tables;
 
 pub fn same_client(a: Client, b: Client) -> bool {
-    let x = a.state;
-    let y = b.state;
+    let p = a.session;
+    let q = b.session;
+    let x = p.state;
+    let y = q.state;
     let lease = a.lease;
     (a.ignore_naks == b.ignore_naks)
-        & (a.transaction_id == b.transaction_id)
+        & (p.transaction_id == q.transaction_id)
         & same_state(x, y)
         & lease.equals(b.lease)
 }

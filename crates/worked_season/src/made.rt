@@ -1,29 +1,39 @@
 // The post of the season.
+use client::Client;
+use client::Created;
 use clock::Duration;
 use clock::Instant;
 use clock::Rand;
 use octets::span::put_bytes_at;
-use run::CreatedPost;
-use run::Post;
 use settings::Medium;
 use settings::Settings;
 use tables::Tables;
 
 const SEED: u64 = 20260401;
 
-const FIRST_MOMENT: u32 = 4000000000;
+pub const FIRST_MOMENT: Instant = Instant { millis: 4000000000 };
 
-// Its tables are empty, and it heeds NAKs.
-pub fn created() -> CreatedPost {
-    Post::new(
-        settings(),
-        false,
-        Tables::new(),
-        Rand::new(SEED),
-        Instant {
-            millis: FIRST_MOMENT,
-        },
-    )
+// Client, tables and generator; the moment is the season's.
+pub struct Post {
+    pub client: Client,
+    pub tables: Tables,
+    pub rand: Rand,
+}
+
+impl Post {
+    // With tables that are empty.
+    pub fn new(client: Client) -> Post {
+        Post {
+            client,
+            tables: Tables::new(),
+            rand: Rand::new(SEED),
+        }
+    }
+}
+
+// A client that heeds NAKs.
+pub fn created() -> Created {
+    Client::new(settings(), false)
 }
 
 // Hardware address 02:00:00:00:00:11, MTU 1,500, name pitch-17, and no request list, extra options or maximum.

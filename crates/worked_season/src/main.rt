@@ -14,6 +14,7 @@ mod server;
 mod tally;
 
 use libc::STDOUT_FILENO;
+use made::Post;
 use made::created;
 use tables::Outcome;
 
@@ -21,7 +22,7 @@ fn main() {
     let created = created();
     let outcome = created.outcome;
     match outcome {
-        Outcome::Done => season::run(created.post),
+        Outcome::Done => season::run(Post::new(created.client)),
         Outcome::Refused(_) => {
             io::write_all(STDOUT_FILENO, b"no post was created\n");
         }

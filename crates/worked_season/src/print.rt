@@ -1,10 +1,11 @@
 // What the season prints: a line for each month and one for all, then the post at the end.
+use crate::made::Post;
+use clock::Instant;
 use lease::DhcpLease;
 use libc::STDOUT_FILENO;
 use machine::ClientState;
 use machine::RenewState;
 use machine::RequestState;
-use run::Post;
 use tables::Tables;
 
 pub fn print(words: &[u8]) {
@@ -61,14 +62,16 @@ fn print_taken(n: [u32; 11]) {
     counted(n[8], b" NAKs |");
 }
 
-pub fn print_post(post: Post) {
+// At the moment of the last call.
+pub fn print_post(post: Post, now: Instant) {
     let client = post.client;
-    let state = client.state;
+    let session = client.session;
+    let state = session.state;
     let lease = client.lease;
-    numbered(b"post: moment ", post.now.millis);
+    numbered(b"post: moment ", now.millis);
     print(b" |");
     print_state(state);
-    numbered(b", id ", client.transaction_id);
+    numbered(b", id ", session.transaction_id);
     print(b" | generator ");
     io::print_decimal(STDOUT_FILENO, post.rand.state);
     print_lease(lease);

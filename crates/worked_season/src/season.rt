@@ -1,5 +1,7 @@
 // The season, call by call.
 use crate::digest::Digest;
+use crate::made::FIRST_MOMENT;
+use crate::made::Post;
 use crate::print::numbered;
 use crate::print::print;
 use crate::print::print_counts;
@@ -16,16 +18,16 @@ use crate::tally::more;
 use client::PollAnswer;
 use client::PollOutcome;
 use client::ReplyOutcome;
+use clock::Duration;
+use clock::Instant;
 use octets::span::up_to;
-use run::Post;
-use std::num::wrapping_add_u32;
 use std::num::wrapping_add_u64;
 use std::num::wrapping_sub_u32;
 
 // Beside the post: the next call is a poll, or the reply of this type to what was heard, so many milliseconds after the last,
 // which was made now.
 pub struct Season {
-    now: u32,
+    now: Instant,
     // milliseconds from creation to the last call
     elapsed: u64,
     // how many months are over
@@ -69,7 +71,7 @@ const MONTHS: [u64; 7] = [
 // The season of a post, to its end.
 pub fn run(created: Post) {
     let mut post = created;
-    let mut season = Season::new(created.now.millis);
+    let mut season = Season::new();
     let mut calls = 0;
     while calls < MOST_CALLS {
         season = season.reach();
@@ -94,11 +96,18 @@ fn call(post: Post, season: Season) -> Turn {
 
 fn poll(post: Post, season: Season) -> Turn {
     let mut buf = [LENT; 600];
-    let polled = post.poll(season.step, &mut buf);
-    let after = polled.post;
+    let polled = post.client
+        .poll(post.tables, post.rand, season.now, &mut buf);
+    let client = polled.client;
+    let tables = polled.tables;
+    let rand = polled.rand;
     let outcome = polled.outcome;
     Turn {
-        post: after,
+        post: Post {
+            client,
+            tables,
+            rand,
+        },
         season: season.polled(outcome, &buf),
     }
 }
@@ -106,22 +115,29 @@ fn poll(post: Post, season: Season) -> Turn {
 fn reply(post: Post, season: Season) -> Turn {
     let reply = Reply::new(season.heard, season.reply, season.naks);
     let octets = reply.octets;
-    let replied = post.process(season.step, SERVER, up_to(&octets, reply.len));
-    let after = replied.post;
-    let outcome = replied.outcome;
+    let processed = post.client
+        .process(post.tables, SERVER, up_to(&octets, reply.len), season.now);
+    let client = processed.client;
+    let tables = processed.tables;
+    let rand = post.rand;
+    let outcome = processed.outcome;
     Turn {
-        post: after,
+        post: Post {
+            client,
+            tables,
+            rand,
+        },
         season: season.replied(outcome),
     }
 }
 
 impl Season {
-    fn new(now: u32) -> Season {
+    fn new() -> Season {
         let tally = Tally::new();
         let digest = Digest::new();
         let heard = Heard::nothing();
         Season {
-            now,
+            now: FIRST_MOMENT,
             elapsed: 0,
             months: 0,
             over: false,
@@ -166,9 +182,9 @@ impl Season {
     }
 
     fn stepped(mut self) -> Season {
-        let now = wrapping_add_u32(self.now, self.step);
+        let now = self.now.add(Duration { millis: self.step });
         let tally = self.tally;
-        let counted = tally.stepped(self.now, now);
+        let counted = tally.stepped(self.now.millis, now.millis);
         self.tally = counted;
         self.now = now;
         self
@@ -189,7 +205,7 @@ impl Season {
         let digested = digest.with_poll(answer, buf);
         self.tally = counted;
         self.digest = digested;
-        self.step = wrapping_sub_u32(answer.wake.millis, self.now);
+        self.step = wrapping_sub_u32(answer.wake.millis, self.now.millis);
         if answer.length == 0 {
             return self;
         }
@@ -239,6 +255,7 @@ impl Season {
     fn refused(mut self, words: &[u8], number: u32) -> Season {
         numbered(words, number);
         print(b"\n");
+        self.step = 0;
         self.over = true;
         self
     }
@@ -250,7 +267,7 @@ impl Season {
         let whole = tally.whole;
         print(b"season");
         print_counts(whole, digest.value());
-        print_post(post);
+        print_post(post, self.now);
     }
 }
 

@@ -12,15 +12,15 @@ pub const SERVER: u32 = 0x0a000009;
 const FIRST_ADDRESS: u32 = 0x0a000032;
 
 // Values of option 53; 0 is no message.
-pub const DISCOVER: u32 = 1;
+pub const DISCOVER: u32 = octets::codes::DISCOVER as u32;
 
-pub const OFFER: u32 = 2;
+pub const OFFER: u32 = octets::codes::OFFER as u32;
 
-pub const REQUEST: u32 = 3;
+pub const REQUEST: u32 = octets::codes::REQUEST as u32;
 
-pub const ACK: u32 = 5;
+pub const ACK: u32 = octets::codes::ACK as u32;
 
-pub const NAK: u32 = 6;
+pub const NAK: u32 = octets::codes::NAK as u32;
 
 const HOUR: u64 = 3600000;
 

@@ -4,19 +4,16 @@ use Rattle.bench.proofs.calls.changes.Statement.{statement}
 use Rattle.bench.proofs.calls.changes.Tie as tie
 
 abbrev Inv-loop : tie.InvT-loop
-Inv-loop kind turns held₀ now sum₀ turn₀ held sum turn = Unit {0}
+Inv-loop post kind turns sum₀ turn₀ sum turn = Unit {0}
 
 abbrev μ-loop : tie.MeasureT-loop
-μ-loop kind turns held₀ now sum₀ turn₀ held sum turn = turns - turn
+μ-loop post kind turns sum₀ turn₀ sum turn = turns - turn
 
 new-requires : tie.Need-new-requires Inv-loop μ-loop
 new-requires c κs = search needs
 
 loop-holds : tie.Need-loop-holds Inv-loop μ-loop
 loop-holds c = tt
-
-at-turn-requires : tie.Need-at-turn-requires Inv-loop μ-loop
-at-turn-requires c κs = search needs
 
 cast-change : tie.Need-cast-change Inv-loop μ-loop
 cast-change c = search needs
@@ -56,7 +53,6 @@ changes-spec =
     μ-loop
     new-requires
     loop-holds
-    at-turn-requires
     cast-change
     add-change
     change-requires

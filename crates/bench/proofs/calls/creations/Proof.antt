@@ -4,16 +4,19 @@ use Rattle.bench.proofs.calls.creations.Statement.{statement}
 use Rattle.bench.proofs.calls.creations.Tie as tie
 
 abbrev Inv-loop : tie.InvT-loop
-Inv-loop turns settings₀ sum₀ turn₀ settings sum turn = Unit {0}
+Inv-loop turns settings₀ tables sum₀ turn₀ settings sum turn = Unit {0}
 
 abbrev μ-loop : tie.MeasureT-loop
-μ-loop turns settings₀ sum₀ turn₀ settings sum turn = turns - turn
+μ-loop turns settings₀ tables sum₀ turn₀ settings sum turn = turns - turn
 
 settings-requires : tie.Need-settings-requires Inv-loop μ-loop
 settings-requires c κs = search needs
 
 new-requires : tie.Need-new-requires Inv-loop μ-loop
 new-requires c κs = search needs
+
+new-requires-2 : tie.Need-new-requires-2 Inv-loop μ-loop
+new-requires-2 c κs = search needs
 
 loop-holds : tie.Need-loop-holds Inv-loop μ-loop
 loop-holds c = tt
@@ -24,8 +27,8 @@ cast-settings c = search needs
 element-write-settings : tie.Need-element-write-settings Inv-loop μ-loop
 element-write-settings c = search needs
 
-created-requires : tie.Need-created-requires Inv-loop μ-loop
-created-requires c κs = search needs
+new-requires-3 : tie.Need-new-requires-3 Inv-loop μ-loop
+new-requires-3 c κs = search needs
 
 left-requires : tie.Need-left-requires Inv-loop μ-loop
 left-requires c κs = search needs
@@ -56,10 +59,11 @@ creations-spec =
     μ-loop
     settings-requires
     new-requires
+    new-requires-2
     loop-holds
     cast-settings
     element-write-settings
-    created-requires
+    new-requires-3
     left-requires
     done-requires
     add-turn

@@ -4,10 +4,10 @@ use Rattle.bench.proofs.calls.none.Statement.{statement}
 use Rattle.bench.proofs.calls.none.Tie as tie
 
 abbrev Inv-loop : tie.InvT-loop
-Inv-loop turns held₀ now sum₀ turn₀ held sum turn = Unit {0}
+Inv-loop post turns sum₀ turn₀ sum turn = Unit {0}
 
 abbrev μ-loop : tie.MeasureT-loop
-μ-loop turns held₀ now sum₀ turn₀ held sum turn = turns - turn
+μ-loop post turns sum₀ turn₀ sum turn = turns - turn
 
 new-requires : tie.Need-new-requires Inv-loop μ-loop
 new-requires c κs = search needs

@@ -6,10 +6,10 @@ use Rattle.bench.proofs.calls.polls.Statement.{statement}
 use Rattle.bench.proofs.calls.polls.Tie as tie
 
 abbrev Inv-loop : tie.InvT-loop
-Inv-loop step buf₀ turns held₀ now sum₀ turn₀ buf held sum turn = length buf ≡ length buf₀
+Inv-loop post step buf₀ turns rand₀ sum₀ turn₀ buf rand sum turn = length buf ≡ length buf₀
 
 abbrev μ-loop : tie.MeasureT-loop
-μ-loop step buf₀ turns held₀ now sum₀ turn₀ buf held sum turn = turns - turn
+μ-loop post step buf₀ turns rand₀ sum₀ turn₀ buf rand sum turn = turns - turn
 
 new-requires : tie.Need-new-requires Inv-loop μ-loop
 new-requires c κs = search needs

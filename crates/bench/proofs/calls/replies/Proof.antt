@@ -6,10 +6,10 @@ use Rattle.bench.proofs.calls.replies.Statement.{statement}
 use Rattle.bench.proofs.calls.replies.Tie as tie
 
 abbrev Inv-loop : tie.InvT-loop
-Inv-loop reply₀ turns held₀ now sum₀ turn₀ reply held sum turn = length reply ≡ length reply₀
+Inv-loop post reply₀ turns sum₀ turn₀ reply sum turn = length reply ≡ length reply₀
 
 abbrev μ-loop : tie.MeasureT-loop
-μ-loop reply₀ turns held₀ now sum₀ turn₀ reply held sum turn = turns - turn
+μ-loop post reply₀ turns sum₀ turn₀ reply sum turn = turns - turn
 
 new-requires : tie.Need-new-requires Inv-loop μ-loop
 new-requires c κs = search needs
@@ -20,8 +20,8 @@ loop-holds c = search needs
 at-turn-requires : tie.Need-at-turn-requires Inv-loop μ-loop
 at-turn-requires c κs = search needs
 
-cast-t18 : tie.Need-cast-t18 Inv-loop μ-loop
-cast-t18 c = search needs
+cast-t15 : tie.Need-cast-t15 Inv-loop μ-loop
+cast-t15 c = search needs
 
 slice-aggregate-put-bytes-at : tie.Need-slice-aggregate-put-bytes-at Inv-loop μ-loop
 slice-aggregate-put-bytes-at c = search needs
@@ -65,7 +65,7 @@ replies-spec =
     new-requires
     loop-holds
     at-turn-requires
-    cast-t18
+    cast-t15
     slice-aggregate-put-bytes-at
     put-bytes-at-requires
     add-turn

@@ -4,19 +4,16 @@ use Rattle.bench.proofs.calls.resets.Statement.{statement}
 use Rattle.bench.proofs.calls.resets.Tie as tie
 
 abbrev Inv-loop : tie.InvT-loop
-Inv-loop turns held₀ now sum₀ turn₀ held sum turn = Unit {0}
+Inv-loop post turns sum₀ turn₀ sum turn = Unit {0}
 
 abbrev μ-loop : tie.MeasureT-loop
-μ-loop turns held₀ now sum₀ turn₀ held sum turn = turns - turn
+μ-loop post turns sum₀ turn₀ sum turn = turns - turn
 
 new-requires : tie.Need-new-requires Inv-loop μ-loop
 new-requires c κs = search needs
 
 loop-holds : tie.Need-loop-holds Inv-loop μ-loop
 loop-holds c = tt
-
-at-turn-requires : tie.Need-at-turn-requires Inv-loop μ-loop
-at-turn-requires c κs = search needs
 
 reset-requires : tie.Need-reset-requires Inv-loop μ-loop
 reset-requires c κs = search needs
@@ -50,7 +47,6 @@ resets-spec =
     μ-loop
     new-requires
     loop-holds
-    at-turn-requires
     reset-requires
     left-requires
     was-reset-requires

@@ -9,11 +9,8 @@ Inv-loop stage post₀ n₀ post n = Unit {0}
 abbrev μ-loop : tie.MeasureT-loop
 μ-loop stage post₀ n₀ post n = stage - n
 
-settings-requires : tie.Need-settings-requires Inv-loop μ-loop
-settings-requires c κs = search needs
-
-created-requires : tie.Need-created-requires Inv-loop μ-loop
-created-requires c κs = search needs
+fresh-requires : tie.Need-fresh-requires Inv-loop μ-loop
+fresh-requires c κs = search needs
 
 loop-holds : tie.Need-loop-holds Inv-loop μ-loop
 loop-holds c = tt
@@ -42,8 +39,7 @@ at-stage-spec =
     (tie.spec
     Inv-loop
     μ-loop
-    settings-requires
-    created-requires
+    fresh-requires
     loop-holds
     returns
     after-call-requires
