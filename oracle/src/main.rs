@@ -8,6 +8,7 @@ mod config;
 mod driver;
 mod error;
 mod iface;
+mod packet_buf;
 mod pool;
 mod rand;
 mod route;

@@ -1,7 +1,7 @@
 //! Stand-in for the stack: what the client and its interface reach of it. What it is told to send, and that link state is
 //! to be purged, it keeps for the answer.
-use crate::driver::PacketBuf;
 use crate::iface::{Iface, IfaceHandle, IfaceState};
+use crate::packet_buf::PacketBuf;
 use crate::pool::PoolRef;
 use crate::rand::Rand;
 use crate::route::Routes;

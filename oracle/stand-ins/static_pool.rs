@@ -1,7 +1,7 @@
 //! Stand-in for the pool: it lends the caller's buffer, once, with room before it for the link's and the IP header. An
 //! empty buffer stands for an exhausted pool.
 use super::Pool;
-use crate::driver::PacketBuf;
+use crate::packet_buf::PacketBuf;
 use std::cell::RefCell;
 
 pub struct StaticPool {
