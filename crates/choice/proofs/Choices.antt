@@ -5,24 +5,24 @@ use native.Mathlib.Omega.{arith}
 use borrow.Author.Tests.{le-ltb, lt-ltb, le-leb, lt-leb, eq-eqb, ne_eqb}
 use Rattle.choice.specs.Choice.{if◌then◌else◌}
 
-pub if-true : {A : Type 0} {b : Bool} {x y : A} (z : A) → b ≡ true → x ≡ y → x ≡ if b then y else z
+pub if_true : {A : Type 0} {b : Bool} {x y : A} (z : A) → b ≡ true → x ≡ y → x ≡ if b then y else z
 unfolding if◌then◌else◌
-if-true {b = true} z t e = e
-if-true {b = false} z t e = cc
+if_true {b = true} z t e = e
+if_true {b = false} z t e = cc
 
-pub if-false : {A : Type 0} {b : Bool} {x z : A} (y : A) → b ≡ false → x ≡ z → x ≡ if b then y else z
+pub if_false : {A : Type 0} {b : Bool} {x z : A} (y : A) → b ≡ false → x ≡ z → x ≡ if b then y else z
 unfolding if◌then◌else◌
-if-false {b = false} y t e = e
-if-false {b = true} y t e = cc
+if_false {b = false} y t e = e
+if_false {b = true} y t e = cc
 
 -- what a test on numbers comes to, for `search tests`
 pub ruleset tests = (le-ltb, lt-ltb, le-leb, lt-leb, eq-eqb, ne_eqb, arith)
 
 -- what holds of each side under its test holds of the choice
-pub if-cases : {A : Type 0} (P : A → Type 0) (b : Bool) {x y : A} → (b ≡ true → P x) → (b ≡ false → P y) → P (if b then x else y)
+pub if_cases : {A : Type 0} (P : A → Type 0) (b : Bool) {x y : A} → (b ≡ true → P x) → (b ≡ false → P y) → P (if b then x else y)
 unfolding if◌then◌else◌
-if-cases P true f g = f refl
-if-cases P false f g = g refl
+if_cases P true f g = f refl
+if_cases P false f g = g refl
 
 pub both_true : (a : Bool) {b : Bool} → if a then b else false ≡ true → (a ≡ true) × (b ≡ true)
 unfolding if◌then◌else◌

@@ -5,11 +5,11 @@ use mathlib.Core.Path.{◌≡◌, refl, sym, ap, ◌∙◌}
 use mathlib.Core.Bool.{Bool, true, false, not, false≢true}
 use mathlib.Core.List.{List}
 use lib.ListN.{length}
-use Rattle.choice.proofs.Choices.{if-true, if-false, if-cases}
+use Rattle.choice.proofs.Choices.{if_true, if_false, if_cases}
 use Rattle.clock.specs.declared.instant.Instant.{Instant}
 use Rattle.clock.specs.declared.rand.Rand.{Rand}
 use Rattle.clock.specs.declared.waits.Waits.{Waits}
-use Rattle.machine.specs.States.{hasLease}
+use Rattle.machine.specs.States.{has_lease}
 use Rattle.machine.specs.Decisions.{decided}
 use Rattle.machine.specs.declared.state.ClientState.TheVariants.{Discovering, Requesting, Renewing}
 use Rattle.machine.specs.declared.decide.Sending.{Sending}
@@ -17,43 +17,43 @@ use Rattle.machine.specs.declared.decide.Sending.TheVariants.{Discover, Request,
 use Rattle.machine.specs.declared.decide.Due.{Due}
 use Rattle.machine.specs.declared.decide.Due.TheVariants.{Nothing, Send}
 use Rattle.tables.specs.declared.tables.Tables.{Tables}
-use Rattle.lease.specs.Leases.{wholeLease}
+use Rattle.lease.specs.Leases.{whole_lease}
 use Rattle.sending.proofs.Sendings.{datagram-fits as message-fits}
-use Rattle.client.specs.Clients.{withSession, leaseFits, wholeClient, wholeAll}
+use Rattle.client.specs.Clients.{with_session, lease_fits, whole_client, whole_all}
 use Rattle.client.specs.Resets.{cleared}
-use Rattle.client.specs.Polls.{PolledInto, id_of, datagramOf, awaiting, moved, refusedBy, passed_by, tooShort, sent, polledAs, polledBy, polledWith}
+use Rattle.client.specs.Polls.{PolledInto, id_of, datagramOf, awaiting, moved, refused_by, passed_by, too_short, sent, polled_as, polled_by, polled_with}
 use Rattle.client.specs.declared.client.Client.{Client}
 use Rattle.client.specs.declared.poll.PollAnswer.{PollAnswer}
 use Rattle.client.specs.declared.poll.PollOutcome.{PollOutcome}
 use Rattle.client.specs.declared.poll.PollOutcome.TheVariants.{Answered, Refused}
-use Rattle.client.proofs.Wholes.{settings-whole, lease-fits, unread-fits, read_fits, parts_whole, all_whole, all-parts, cleared-whole}
+use Rattle.client.proofs.Wholes.{settings_whole, lease_fits_lem, unread_fits, read_fits, parts_whole, all_whole, all_parts, cleared_whole}
 use Rattle.client.proofs.Effects.{Fitting}
 
 module _ (c : Client) (t : Tables) (g : Rand) (b : List ℕ) where
   -- what holds of a refusal, of a poll with nothing due and of one that sends, holds of a poll
-  pub sent-cases : (P : PolledInto → Type 0) → P (refusedBy c t g b 8) → (m : Instant) (s : Sending) → P (moved c t g b m s) → P (sent c t g b m s)
+  pub sent_cases : (P : PolledInto → Type 0) → P (refused_by c t g b 8) → (m : Instant) (s : Sending) → P (moved c t g b m s) → P (sent c t g b m s)
   unfolding sent
-  sent-cases P r m s f = if-cases P (tooShort b (length (datagramOf c g s))) (λ e. r) (λ e. f)
+  sent_cases P r m s f = if_cases P (too_short b (length (datagramOf c g s))) (λ e. r) (λ e. f)
 
-  pub polled-cases : (P : PolledInto → Type 0) → ((n : ℕ) → P (refusedBy c t g b n)) → ((m : Instant) → P (passed_by c t g b m)) → ((m : Instant) (s : Sending) → P (moved c t g b m s))
-      → (w : Waits) (now : Instant) → P (polledWith w c t g now b)
-  unfolding polledWith
-  polled-cases P r p f w now =
-      if-cases P (not (wholeAll c t)) (λ e. r 9) (λ e. by (decided w c.session.state now.millis).due (decided w c.session.state now.millis).wake)
+  pub polled_cases : (P : PolledInto → Type 0) → ((n : ℕ) → P (refused_by c t g b n)) → ((m : Instant) → P (passed_by c t g b m)) → ((m : Instant) (s : Sending) → P (moved c t g b m s))
+      → (w : Waits) (now : Instant) → P (polled_with w c t g now b)
+  unfolding polled_with
+  polled_cases P r p f w now =
+      if_cases P (not (whole_all c t)) (λ e. r 9) (λ e. by (decided w c.session.state now.millis).due (decided w c.session.state now.millis).wake)
     where
-      by : (d : Due) (m : Instant) → P (polledAs c t g b m d)
+      by : (d : Due) (m : Instant) → P (polled_as c t g b m d)
       by Nothing m = p m
-      by (Send s) m = sent-cases P (r 8) m s (f m s)
+      by (Send s) m = sent_cases P (r 8) m s (f m s)
 
   -- The poll of a client and tables that are whole.
-  pub polled-whole : wholeAll c t ≡ true → (w : Waits) (now : Instant) → polledWith w c t g now b ≡ polledBy c t g b (decided w c.session.state now.millis)
-  unfolding polledWith
-  polled-whole h w now = sym (if-false _ (ap not h) refl)
+  pub polled_whole : whole_all c t ≡ true → (w : Waits) (now : Instant) → polled_with w c t g now b ≡ polled_by c t g b (decided w c.session.state now.millis)
+  unfolding polled_with
+  polled_whole h w now = sym (if_false _ (ap not h) refl)
 
   -- A poll that is refused leaves all as it came, the lent buffer too.
-  pub poll-kept : (w : Waits) (now : Instant) (n : ℕ) → (polledWith w c t g now b).polled.outcome ≡ Refused n
-      → ((polledWith w c t g now b).polled.client ≡ c) × ((polledWith w c t g now b).polled.tables ≡ t) × ((polledWith w c t g now b).polled.rand ≡ g) × ((polledWith w c t g now b).buffer ≡ b)
-  poll-kept w now n = polled-cases Kept (λ m e. (refl, refl, refl, refl)) (λ m e. absurd (answered e)) (λ m s e. absurd (answered e)) w now
+  pub poll_kept : (w : Waits) (now : Instant) (n : ℕ) → (polled_with w c t g now b).polled.outcome ≡ Refused n
+      → ((polled_with w c t g now b).polled.client ≡ c) × ((polled_with w c t g now b).polled.tables ≡ t) × ((polled_with w c t g now b).polled.rand ≡ g) × ((polled_with w c t g now b).buffer ≡ b)
+  poll_kept w now n = polled_cases Kept (λ m e. (refl, refl, refl, refl)) (λ m e. absurd (answered e)) (λ m s e. absurd (answered e)) w now
     where
       Kept : PolledInto → Type 0
       Kept r = r.polled.outcome ≡ Refused n → (r.polled.client ≡ c) × (r.polled.tables ≡ t) × (r.polled.rand ≡ g) × (r.buffer ≡ b)
@@ -66,26 +66,26 @@ module _ (c : Client) (t : Tables) (g : Rand) (b : List ℕ) where
       answered e = false≢true (ap is_refused e)
 
 -- A message has from 1 to MTU − 20 octets, the UDP header among them.
-pub datagram-fits : (c : Client) → wholeClient c ≡ true → (g : Rand) (s : Sending) → (0 < length (datagramOf c g s)) × (length (datagramOf c g s) ≤ c.settings.mtu - 20)
-datagram-fits c h g s = message-fits c.settings (settings-whole c h) c.lease (id_of c g s) s
+pub datagram-fits : (c : Client) → whole_client c ≡ true → (g : Rand) (s : Sending) → (0 < length (datagramOf c g s)) × (length (datagramOf c g s) ≤ c.settings.mtu - 20)
+datagram-fits c h g s = message-fits c.settings (settings_whole c h) c.lease (id_of c g s) s
 
-module _ (c : Client) (t : Tables) (h : wholeAll c t ≡ true) (g : Rand) (buffer : List ℕ) (wake : Instant) where
-  held_whole : hasLease c.session.state ≡ true → wholeLease c.lease ≡ true
-  unfolding leaseFits
-  held_whole e = if-true true e refl ∙ lease-fits c (all-parts c t h).0
+module _ (c : Client) (t : Tables) (h : whole_all c t ≡ true) (g : Rand) (buffer : List ℕ) (wake : Instant) where
+  held_whole : has_lease c.session.state ≡ true → whole_lease c.lease ≡ true
+  unfolding lease_fits
+  held_whole e = if_true true e refl ∙ lease_fits_lem c (all_parts c t h).0
 
   -- A whole client that sends a message stays whole.
-  pub moved-whole : (s : Sending) → Fitting c s → wholeAll (moved c t g buffer wake s).polled.client (moved c t g buffer wake s).polled.tables ≡ true
-  moved-whole (Discover s) f =
-      let k = cleared-whole c t h in
-      let p = all-parts (cleared c t).client (cleared c t).tables k in
-      all_whole (withSession (cleared c t).client (awaiting (Discover s) (id_of c g (Discover s)))) (cleared c t).tables
-      (parts_whole (withSession (cleared c t).client (awaiting (Discover s) (id_of c g (Discover s)))) (settings-whole (cleared c t).client p.0) (unread-fits (Discovering s) (cleared c t).client.lease refl)) p.1
-  moved-whole (Request s) f =
-      let p = all-parts c t h in
-      all_whole (withSession c (awaiting (Request s) (id_of c g (Request s)))) t
-      (parts_whole (withSession c (awaiting (Request s) (id_of c g (Request s)))) (settings-whole c p.0) (unread-fits (Requesting s) c.lease refl)) p.1
-  moved-whole (Renew s) f =
-      let p = all-parts c t h in
-      all_whole (withSession c (awaiting (Renew s) (id_of c g (Renew s)))) t
-      (parts_whole (withSession c (awaiting (Renew s) (id_of c g (Renew s)))) (settings-whole c p.0) (read_fits (Renewing s) c.lease refl (held_whole f))) p.1
+  pub moved_whole : (s : Sending) → Fitting c s → whole_all (moved c t g buffer wake s).polled.client (moved c t g buffer wake s).polled.tables ≡ true
+  moved_whole (Discover s) f =
+      let k = cleared_whole c t h in
+      let p = all_parts (cleared c t).client (cleared c t).tables k in
+      all_whole (with_session (cleared c t).client (awaiting (Discover s) (id_of c g (Discover s)))) (cleared c t).tables
+      (parts_whole (with_session (cleared c t).client (awaiting (Discover s) (id_of c g (Discover s)))) (settings_whole (cleared c t).client p.0) (unread_fits (Discovering s) (cleared c t).client.lease refl)) p.1
+  moved_whole (Request s) f =
+      let p = all_parts c t h in
+      all_whole (with_session c (awaiting (Request s) (id_of c g (Request s)))) t
+      (parts_whole (with_session c (awaiting (Request s) (id_of c g (Request s)))) (settings_whole c p.0) (unread_fits (Requesting s) c.lease refl)) p.1
+  moved_whole (Renew s) f =
+      let p = all_parts c t h in
+      all_whole (with_session c (awaiting (Renew s) (id_of c g (Renew s)))) t
+      (parts_whole (with_session c (awaiting (Renew s) (id_of c g (Renew s)))) (settings_whole c p.0) (read_fits (Renewing s) c.lease refl (held_whole f))) p.1

@@ -3,13 +3,13 @@ use Prim.Native.Nat.{ℕ}
 use mathlib.Core.Path.{◌≡◌, refl, sym, ap, ◌∙◌}
 use mathlib.Core.Bool.{Bool, true, false, not, false≢true}
 use mathlib.Core.List.{List}
-use Rattle.choice.proofs.Choices.{if-cases}
+use Rattle.choice.proofs.Choices.{if_cases}
 use Rattle.clock.specs.declared.instant.Instant.{Instant}
 use Rattle.tables.specs.declared.tables.Tables.{Tables}
-use Rattle.client.specs.Clients.{wholeAll}
-use Rattle.client.specs.Resets.{wasReset}
+use Rattle.client.specs.Clients.{whole_all}
+use Rattle.client.specs.Resets.{was_reset}
 use Rattle.judge.specs.Judged.{judged}
-use Rattle.client.specs.Taken.{recipientOf, replied, processed}
+use Rattle.client.specs.Taken.{recipient_of, replied, processed}
 use Rattle.client.specs.declared.client.Client.{Client}
 use Rattle.judge.specs.declared.judge.Verdict.{Verdict}
 use Rattle.judge.specs.declared.judge.Verdict.TheVariants.{Offer, Ack, Nak, PassedOver}
@@ -21,34 +21,34 @@ use Rattle.client.specs.declared.process.ReplyOutcome.{ReplyOutcome}
 use Rattle.client.specs.declared.process.ReplyOutcome.TheVariants as reply
 
 -- whether a reply was taken, and a reset made
-abbrev pub wasTaken : ReplyOutcome → Bool
-wasTaken (reply.Taken purge) = true
-wasTaken (reply.PassedOver n) = false
-wasTaken (reply.Refused n) = false
+abbrev pub was_taken : ReplyOutcome → Bool
+was_taken (reply.Taken purge) = true
+was_taken (reply.PassedOver n) = false
+was_taken (reply.Refused n) = false
 
-abbrev pub wasMade : ResetOutcome → Bool
-wasMade (reset.Done purge) = true
-wasMade (reset.Refused n) = false
+abbrev pub was_made : ResetOutcome → Bool
+was_made (reset.Done purge) = true
+was_made (reset.Refused n) = false
 
 module _ (c : Client) (t : Tables) where
   abbrev Kept : Processed → Type 0
-  Kept p = wasTaken p.outcome ≡ false → (p.client ≡ c) × (p.tables ≡ t)
+  Kept p = was_taken p.outcome ≡ false → (p.client ≡ c) × (p.tables ≡ t)
 
-  verdict-kept : (bytes : List ℕ) (moment : Instant) (v : Verdict) → Kept (replied c t bytes moment v)
+  verdict_kept : (bytes : List ℕ) (moment : Instant) (v : Verdict) → Kept (replied c t bytes moment v)
   unfolding replied
-  verdict-kept bytes moment (Offer o) e = absurd (false≢true (sym e))
-  verdict-kept bytes moment (Ack a) e = absurd (false≢true (sym e))
-  verdict-kept bytes moment Nak e = absurd (false≢true (sym e))
-  verdict-kept bytes moment (PassedOver n) e = (refl, refl)
+  verdict_kept bytes moment (Offer o) e = absurd (false≢true (sym e))
+  verdict_kept bytes moment (Ack a) e = absurd (false≢true (sym e))
+  verdict_kept bytes moment Nak e = absurd (false≢true (sym e))
+  verdict_kept bytes moment (PassedOver n) e = (refl, refl)
 
-  pub untaken-kept : (source : ℕ) (bytes : List ℕ) (moment : Instant) → Kept (processed c t source bytes moment)
+  pub untaken_kept : (source : ℕ) (bytes : List ℕ) (moment : Instant) → Kept (processed c t source bytes moment)
   unfolding processed
-  untaken-kept source bytes moment = if-cases Kept (not (wholeAll c t)) (λ h e. (refl, refl)) (λ h. verdict-kept bytes moment (judged (recipientOf c) source bytes))
+  untaken_kept source bytes moment = if_cases Kept (not (whole_all c t)) (λ h e. (refl, refl)) (λ h. verdict_kept bytes moment (judged (recipient_of c) source bytes))
 
-  pub refused-kept : wasMade (wasReset c t).outcome ≡ false → ((wasReset c t).client ≡ c) × ((wasReset c t).tables ≡ t)
-  unfolding wasReset
-  refused-kept =
-      if-cases (λ (r : WasReset). wasMade r.outcome ≡ false → (r.client ≡ c) × (r.tables ≡ t)) (not (wholeAll c t))
+  pub refused_kept : was_made (was_reset c t).outcome ≡ false → ((was_reset c t).client ≡ c) × ((was_reset c t).tables ≡ t)
+  unfolding was_reset
+  refused_kept =
+      if_cases (λ (r : WasReset). was_made r.outcome ≡ false → (r.client ≡ c) × (r.tables ≡ t)) (not (whole_all c t))
       (λ h e. (refl, refl))
       (λ h e. absurd (false≢true (sym e)))
 
@@ -61,19 +61,19 @@ module _ (c : Client) (t : Tables) where
   refusal (reply.PassedOver n) = false
   refusal (reply.Refused n) = true
 
-  verdict-answered : (bytes : List ℕ) (moment : Instant) (v : Verdict) → Unrefused (replied c t bytes moment v)
+  verdict_answered : (bytes : List ℕ) (moment : Instant) (v : Verdict) → Unrefused (replied c t bytes moment v)
   unfolding replied refusal
-  verdict-answered bytes moment (Offer o) n e = false≢true (ap refusal e)
-  verdict-answered bytes moment (Ack a) n e = false≢true (ap refusal e)
-  verdict-answered bytes moment Nak n e = false≢true (ap refusal e)
-  verdict-answered bytes moment (PassedOver m) n e = false≢true (ap refusal e)
+  verdict_answered bytes moment (Offer o) n e = false≢true (ap refusal e)
+  verdict_answered bytes moment (Ack a) n e = false≢true (ap refusal e)
+  verdict_answered bytes moment Nak n e = false≢true (ap refusal e)
+  verdict_answered bytes moment (PassedOver m) n e = false≢true (ap refusal e)
 
-  pub reply-answered : wholeAll c t ≡ true → (source : ℕ) (bytes : List ℕ) (moment : Instant) → Unrefused (processed c t source bytes moment)
+  pub reply_answered : whole_all c t ≡ true → (source : ℕ) (bytes : List ℕ) (moment : Instant) → Unrefused (processed c t source bytes moment)
   unfolding processed
-  reply-answered w source bytes moment =
-      if-cases Unrefused (not (wholeAll c t)) (λ h n e. false≢true (sym (ap not w) ∙ h)) (λ h. verdict-answered bytes moment (judged (recipientOf c) source bytes))
+  reply_answered w source bytes moment =
+      if_cases Unrefused (not (whole_all c t)) (λ h n e. false≢true (sym (ap not w) ∙ h)) (λ h. verdict_answered bytes moment (judged (recipient_of c) source bytes))
 
-  pub reset-made : wholeAll c t ≡ true → wasMade (wasReset c t).outcome ≡ true
-  unfolding wasReset
-  reset-made w =
-      if-cases (λ (r : WasReset). wasMade r.outcome ≡ true) (not (wholeAll c t)) (λ h. absurd (false≢true (sym (ap not w) ∙ h))) (λ h. refl)
+  pub reset_made : whole_all c t ≡ true → was_made (was_reset c t).outcome ≡ true
+  unfolding was_reset
+  reset_made w =
+      if_cases (λ (r : WasReset). was_made r.outcome ≡ true) (not (whole_all c t)) (λ h. absurd (false≢true (sym (ap not w) ∙ h))) (λ h. refl)

@@ -4,14 +4,14 @@ use Rattle.std.specs.Prelude.{ℕ, Bool, List}
 use Rattle.clock.specs.declared.instant.Instant.{Instant}
 use Rattle.clock.specs.declared.rand.Rand.{Rand}
 use Rattle.clock.specs.declared.waits.Waits.{Waits}
-use Rattle.tables.specs.Manual.{addAddress, dropAddress, addRoute, dropRoute}
+use Rattle.tables.specs.Manual.{add_address, drop_address, add_route, drop_route}
 use Rattle.tables.specs.declared.tables.Tables.{Tables}
 use Rattle.tables.specs.declared.manual.Changed.{Changed}
 use Rattle.settings.specs.declared.settings.Settings.{Settings}
 use Rattle.client.specs.Clients.{created}
-use Rattle.client.specs.Resets.{wasReset}
+use Rattle.client.specs.Resets.{was_reset}
 use Rattle.client.specs.Taken.{processed}
-use Rattle.client.specs.Polls.{PolledInto, polledWith, polled}
+use Rattle.client.specs.Polls.{PolledInto, polled_with, polled}
 use Rattle.client.specs.declared.client.Client.{Client}
 use Rattle.client.specs.declared.client.Created.{Created}
 use Rattle.client.specs.declared.process.Processed.{Processed}
@@ -31,17 +31,17 @@ pub record Calls : Type 0 where
   pub poll : Client → Tables → Rand → Instant → List ℕ → PolledInto
   pub process : Client → Tables → ℕ → List ℕ → Instant → Processed
   pub reset : Client → Tables → WasReset
-  pub byHand : Manual → Tables → Changed
+  pub by_hand : Manual → Tables → Changed
 
-abbrev pub changedBy : Manual → Tables → Changed
-changedBy (AddAddress address prefix) t = addAddress t address prefix
-changedBy (DropAddress address prefix) t = dropAddress t address prefix
-changedBy (AddRoute network prefix router) t = addRoute t network prefix router
-changedBy (DropRoute network prefix router) t = dropRoute t network prefix router
+abbrev pub changed_by : Manual → Tables → Changed
+changed_by (AddAddress address prefix) t = add_address t address prefix
+changed_by (DropAddress address prefix) t = drop_address t address prefix
+changed_by (AddRoute network prefix router) t = add_route t network prefix router
+changed_by (DropRoute network prefix router) t = drop_route t network prefix router
 
 -- Ours: the definitions that the contracts cite. And the same with any waits, for the proof alone.
 abbrev pub calls : Calls
-calls = record { create = created; poll = polled; process = processed; reset = wasReset; byHand = changedBy }
+calls = record { create = created; poll = polled; process = processed; reset = was_reset; by_hand = changed_by }
 
-abbrev pub callsWith : Waits → Calls
-callsWith w = record { create = created; poll = polledWith w; process = processed; reset = wasReset; byHand = changedBy }
+abbrev pub calls_with : Waits → Calls
+calls_with w = record { create = created; poll = polled_with w; process = processed; reset = was_reset; by_hand = changed_by }

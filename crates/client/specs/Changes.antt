@@ -1,5 +1,5 @@
 -- What a poll changes, in the shape of the code: definitions for contracts within this crate. `polled` is the meaning of a
--- poll; of a client and tables that are whole it is what `pollChange` leaves (proofs/Changes.antt, polled-by-change).
+-- poll; of a client and tables that are whole it is what `poll_change` leaves (proofs/Changes.antt, polled-by-change).
 use Rattle.std.specs.Prelude.{ℕ, Bool, false, List, [], ◌∷◌, length}
 use Rattle.choice.specs.Choice.{if◌then◌else◌}
 use Rattle.clock.specs.declared.instant.Instant.{Instant}
@@ -8,7 +8,7 @@ use Rattle.clock.specs.declared.rand.Drawn32.{Drawn32}
 use Rattle.octets.specs.Runs.{over}
 use Rattle.message.specs.declared.message.Answer.{Answer}
 use Rattle.message.specs.declared.message.Answer.TheVariants as answer
-use Rattle.machine.specs.States.{hasLease}
+use Rattle.machine.specs.States.{has_lease}
 use Rattle.machine.specs.Decisions.{decided}
 use Rattle.machine.specs.declared.state.ClientState.{ClientState}
 use Rattle.machine.specs.declared.decide.Sending.{Sending}
@@ -17,9 +17,9 @@ use Rattle.machine.specs.declared.decide.Due.{Due}
 use Rattle.machine.specs.declared.decide.Due.TheVariants.{Nothing, Send}
 use Rattle.machine.specs.declared.decide.Decision.{Decision}
 use Rattle.tables.specs.declared.tables.Tables.{Tables}
-use Rattle.settings.specs.Settings.{waitsOf}
-use Rattle.sending.specs.Sendings.{drawnFor, endpointsOf, wrote}
-use Rattle.client.specs.Clients.{withSession}
+use Rattle.settings.specs.Settings.{waits_of}
+use Rattle.sending.specs.Sendings.{drawn_for, endpoints_of, wrote}
+use Rattle.client.specs.Clients.{with_session}
 use Rattle.client.specs.Resets.{dropped}
 use Rattle.client.specs.Polls.{id_of, datagramOf, kept, awaiting, silent, built, purging}
 use Rattle.client.specs.declared.client.Session.{Session}
@@ -42,13 +42,13 @@ unmoved session g outcome = record { drops = false; session = session; rand = g;
 
 -- Whether a lease goes where a message is sent: one that is held, where the client discovers.
 abbrev pub drops : ClientState → Sending → Bool
-drops state (Discover s) = hasLease state
+drops state (Discover s) = has_lease state
 drops state (Request s) = false
 drops state (Renew s) = false
 
 -- A message is sent from a state. Link state is to be purged where the lease goes.
-abbrev pub movedBy : ClientState → Drawn32 → Sending → PollAnswer → PollChange
-movedBy state drawn sending answer = record {
+abbrev pub moved_by : ClientState → Drawn32 → Sending → PollAnswer → PollChange
+moved_by state drawn sending answer = record {
   drops = drops state sending;
   session = awaiting sending drawn.value;
   rand = drawn.rand;
@@ -56,38 +56,38 @@ movedBy state drawn sending answer = record {
 }
 
 -- What is due, by the writer's answer: 8 where it is a refusal. Of a whole client the writer refuses by no other number.
-abbrev pub changeWritten : Client → Rand → List ℕ → Instant → Sending → Answer → ChangeInto
-changeWritten c g buffer wake sending (answer.Length n) = record {
-  change = movedBy c.session.state (drawnFor c.session.transaction_id g sending) sending (built n (endpointsOf c.lease sending) wake);
+abbrev pub change_written : Client → Rand → List ℕ → Instant → Sending → Answer → ChangeInto
+change_written c g buffer wake sending (answer.Length n) = record {
+  change = moved_by c.session.state (drawn_for c.session.transaction_id g sending) sending (built n (endpoints_of c.lease sending) wake);
   buffer = over (datagramOf c g sending) buffer;
 }
-changeWritten c g buffer wake sending (answer.Refused n) = record { change = unmoved c.session g (Refused 8); buffer = buffer }
+change_written c g buffer wake sending (answer.Refused n) = record { change = unmoved c.session g (Refused 8); buffer = buffer }
 
 -- An empty buffer gets nothing, and the message counts as sent.
-abbrev pub changeSent : Client → Rand → List ℕ → Instant → Sending → ChangeInto
-changeSent c g [] wake sending = record { change = movedBy c.session.state (drawnFor c.session.transaction_id g sending) sending (silent wake); buffer = [] }
-changeSent c g (x ∷ xs) wake sending =
-    changeWritten c g (x ∷ xs) wake sending (wrote c.settings c.lease (id_of c g sending) sending (length (x ∷ xs)))
+abbrev pub change_sent : Client → Rand → List ℕ → Instant → Sending → ChangeInto
+change_sent c g [] wake sending = record { change = moved_by c.session.state (drawn_for c.session.transaction_id g sending) sending (silent wake); buffer = [] }
+change_sent c g (x ∷ xs) wake sending =
+    change_written c g (x ∷ xs) wake sending (wrote c.settings c.lease (id_of c g sending) sending (length (x ∷ xs)))
 
-abbrev pub changeAs : Client → Rand → List ℕ → Instant → Due → ChangeInto
-changeAs c g buffer wake Nothing = record { change = unmoved c.session g (Answered (silent wake)); buffer = buffer }
-changeAs c g buffer wake (Send sending) = changeSent c g buffer wake sending
+abbrev pub change_as : Client → Rand → List ℕ → Instant → Due → ChangeInto
+change_as c g buffer wake Nothing = record { change = unmoved c.session g (Answered (silent wake)); buffer = buffer }
+change_as c g buffer wake (Send sending) = change_sent c g buffer wake sending
 
-abbrev pub changeBy : Client → Rand → List ℕ → Decision → ChangeInto
-changeBy c g buffer decision = changeAs c g buffer decision.wake decision.due
+abbrev pub change_by : Client → Rand → List ℕ → Decision → ChangeInto
+change_by c g buffer decision = change_as c g buffer decision.wake decision.due
 
 -- The poll of a client that was found whole, as far as it changes anything.
-unfoldable pub pollChange : Client → Rand → Instant → List ℕ → ChangeInto
-pollChange c g now buffer = changeBy c g buffer (decided (waitsOf c.settings) c.session.state now.millis)
+unfoldable pub poll_change : Client → Rand → Instant → List ℕ → ChangeInto
+poll_change c g now buffer = change_by c g buffer (decided (waits_of c.settings) c.session.state now.millis)
 
 -- What is left by such a change: the lease, and what it has put into the tables, are out where it goes.
-abbrev pub leftBy : Settled → PollChange → Polled
-leftBy s m = record {
-  client = withSession s.client m.session;
+abbrev pub left_by : Settled → PollChange → Polled
+left_by s m = record {
+  client = with_session s.client m.session;
   tables = s.tables;
   rand = m.rand;
   outcome = m.outcome;
 }
 
-unfoldable pub afterChange : Client → Tables → PollChange → Polled
-afterChange c t m = if m.drops then leftBy (dropped c t) m else leftBy (kept c t) m
+unfoldable pub after_change : Client → Tables → PollChange → Polled
+after_change c t m = if m.drops then left_by (dropped c t) m else left_by (kept c t) m

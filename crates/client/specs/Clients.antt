@@ -3,14 +3,14 @@ use Rattle.std.specs.Prelude.{Bool, true, false}
 use Rattle.choice.specs.Choice.{if◌then◌else◌}
 use Rattle.octets.specs.declared.number.MaybeNumber.{MaybeNumber}
 use Rattle.octets.specs.declared.number.MaybeNumber.TheVariants.{None, Some}
-use Rattle.machine.specs.States.{hasLease}
+use Rattle.machine.specs.States.{has_lease}
 use Rattle.machine.specs.declared.state.ClientState.{ClientState}
 use Rattle.machine.specs.declared.state.ClientState.TheVariants.{Init}
-use Rattle.tables.specs.Tables.{wholeTables}
+use Rattle.tables.specs.Tables.{whole_tables}
 use Rattle.tables.specs.declared.outcome.Outcome.TheVariants.{Done, Refused}
 use Rattle.tables.specs.declared.tables.Tables.{Tables}
-use Rattle.settings.specs.Settings.{noSettings, refusalOf}
-use Rattle.lease.specs.Leases.{noLease, wholeLease}
+use Rattle.settings.specs.Settings.{no_settings, refusal_of}
+use Rattle.lease.specs.Leases.{no_lease, whole_lease}
 use Rattle.settings.specs.declared.settings.Settings.{Settings}
 use Rattle.lease.specs.declared.lease.DhcpLease.{DhcpLease}
 use Rattle.client.specs.declared.client.Session.{Session}
@@ -18,16 +18,16 @@ use Rattle.client.specs.declared.client.Client.{Client}
 use Rattle.client.specs.declared.client.Created.{Created}
 
 -- The client with another session and another lease, and all else as it is.
-abbrev pub withLease : Client → Session → DhcpLease → Client
-withLease c session lease =
+abbrev pub with_lease : Client → Session → DhcpLease → Client
+with_lease c session lease =
     record { settings = c.settings; ignore_naks = c.ignore_naks; session = session; lease = lease }
 
-abbrev pub withSession : Client → Session → Client
-withSession c session = withLease c session c.lease
+abbrev pub with_session : Client → Session → Client
+with_session c session = with_lease c session c.lease
 
 -- A session in another state: the transaction id is kept.
-abbrev pub inState : Session → ClientState → Session
-inState session state = record { state = state; transaction_id = session.transaction_id }
+abbrev pub in_state : Session → ClientState → Session
+in_state session state = record { state = state; transaction_id = session.transaction_id }
 
 -- A client that creation returns: Init, no lease, transaction id 1.
 abbrev pub fresh : Settings → Bool → Client
@@ -35,38 +35,38 @@ fresh settings ignoring = record {
   settings = settings;
   ignore_naks = ignoring;
   session = record { state = Init; transaction_id = 1 };
-  lease = noLease;
+  lease = no_lease;
 }
 
 -- All zero, where creation is refused.
-abbrev pub noClient : Client
-noClient = record {
-  settings = noSettings;
+abbrev pub no_client : Client
+no_client = record {
+  settings = no_settings;
   ignore_naks = false;
   session = record { state = Init; transaction_id = 0 };
-  lease = noLease;
+  lease = no_lease;
 }
 
 -- Creation: 1 to 7, in that order.
-abbrev pub createdOr : MaybeNumber → Settings → Bool → Created
-createdOr None settings ignoring = record { client = fresh settings ignoring; outcome = Done }
-createdOr (Some number) settings ignoring = record { client = noClient; outcome = Refused number }
+abbrev pub created_or : MaybeNumber → Settings → Bool → Created
+created_or None settings ignoring = record { client = fresh settings ignoring; outcome = Done }
+created_or (Some number) settings ignoring = record { client = no_client; outcome = Refused number }
 
 unfoldable pub created : Settings → Bool → Created
-created settings ignoring = createdOr (refusalOf settings) settings ignoring
+created settings ignoring = created_or (refusal_of settings) settings ignoring
 
 -- The lease is read in Renewing alone.
-unfoldable pub leaseFits : ClientState → DhcpLease → Bool
-leaseFits state lease = if hasLease state then wholeLease lease else true
+unfoldable pub lease_fits : ClientState → DhcpLease → Bool
+lease_fits state lease = if has_lease state then whole_lease lease else true
 
 -- 9, of a client: a setting that 1 to 7 refuse, or a lease that is read and is not whole.
-abbrev pub wholeOr : MaybeNumber → Bool → Bool
-wholeOr None fits = fits
-wholeOr (Some number) fits = false
+abbrev pub whole_or : MaybeNumber → Bool → Bool
+whole_or None fits = fits
+whole_or (Some number) fits = false
 
-unfoldable pub wholeClient : Client → Bool
-wholeClient c = wholeOr (refusalOf c.settings) (leaseFits c.session.state c.lease)
+unfoldable pub whole_client : Client → Bool
+whole_client c = whole_or (refusal_of c.settings) (lease_fits c.session.state c.lease)
 
 -- 9, of a client and its tables: what every call on the two tests first.
-unfoldable pub wholeAll : Client → Tables → Bool
-wholeAll c t = if wholeClient c then wholeTables t else false
+unfoldable pub whole_all : Client → Tables → Bool
+whole_all c t = if whole_client c then whole_tables t else false

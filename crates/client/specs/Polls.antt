@@ -15,9 +15,9 @@ use Rattle.machine.specs.declared.decide.Due.{Due}
 use Rattle.machine.specs.declared.decide.Due.TheVariants.{Nothing, Send}
 use Rattle.machine.specs.declared.decide.Decision.{Decision}
 use Rattle.tables.specs.declared.tables.Tables.{Tables}
-use Rattle.settings.specs.Settings.{waitsOf}
-use Rattle.sending.specs.Sendings.{idFor, drawnFor, endpointsOf, datagramFor}
-use Rattle.client.specs.Clients.{withSession, wholeAll}
+use Rattle.settings.specs.Settings.{waits_of}
+use Rattle.sending.specs.Sendings.{id_for, drawn_for, endpoints_of, datagramFor}
+use Rattle.client.specs.Clients.{with_session, whole_all}
 use Rattle.client.specs.Resets.{cleared}
 use Rattle.client.specs.declared.client.Session.{Session}
 use Rattle.client.specs.declared.client.Client.{Client}
@@ -28,7 +28,7 @@ use Rattle.client.specs.declared.poll.Polled.{Polled}
 
 -- The id of the client's message, and its datagram.
 abbrev pub id_of : Client → Rand → Sending → ℕ
-id_of c g sending = idFor c.session.transaction_id g sending
+id_of c g sending = id_for c.session.transaction_id g sending
 
 abbrev pub datagramOf : Client → Rand → Sending → List ℕ
 datagramOf c g sending = datagramFor c.settings c.lease (id_of c g sending) sending
@@ -37,10 +37,10 @@ datagramOf c g sending = datagramFor c.settings c.lease (id_of c g sending) send
 abbrev pub kept : Client → Tables → Settled
 kept c t = record { client = c; tables = t; purge = false }
 
-abbrev pub madeReady : Client → Tables → Sending → Settled
-madeReady c t (Discover s) = cleared c t
-madeReady c t (Request s) = kept c t
-madeReady c t (Renew s) = kept c t
+abbrev pub made_ready : Client → Tables → Sending → Settled
+made_ready c t (Discover s) = cleared c t
+made_ready c t (Request s) = kept c t
+made_ready c t (Renew s) = kept c t
 
 -- The session once a message is sent: in the state that follows, with the message's id.
 abbrev pub awaiting : Sending → ℕ → Session
@@ -55,8 +55,8 @@ pub record PolledInto : Type 0 where
 abbrev pub refusal : Client → Tables → Rand → ℕ → Polled
 refusal c t g number = record { client = c; tables = t; rand = g; outcome = Refused number }
 
-abbrev pub refusedBy : Client → Tables → Rand → List ℕ → ℕ → PolledInto
-refusedBy c t g buffer number = record { polled = refusal c t g number; buffer = buffer }
+abbrev pub refused_by : Client → Tables → Rand → List ℕ → ℕ → PolledInto
+refused_by c t g buffer number = record { polled = refusal c t g number; buffer = buffer }
 
 -- Nothing is due: all is as it came, "length, source and destination address (all 0 if none was built)".
 abbrev pub silent : Instant → PollAnswer
@@ -74,13 +74,13 @@ abbrev pub built : ℕ → Endpoints → Instant → PollAnswer
 built size ends wake =
     record { length = size; source = ends.source; destination = ends.destination; wake = wake; purge = false }
 
-abbrev pub builtInto : List ℕ → Endpoints → List ℕ → Instant → PollAnswer
-builtInto [] ends out wake = silent wake
-builtInto (x ∷ xs) ends out wake = built (length out) ends wake
+abbrev pub built_into : List ℕ → Endpoints → List ℕ → Instant → PollAnswer
+built_into [] ends out wake = silent wake
+built_into (x ∷ xs) ends out wake = built (length out) ends wake
 
-abbrev pub bufferWith : List ℕ → List ℕ → List ℕ
-bufferWith [] out = []
-bufferWith (x ∷ xs) out = over out (x ∷ xs)
+abbrev pub buffer_with : List ℕ → List ℕ → List ℕ
+buffer_with [] out = []
+buffer_with (x ∷ xs) out = over out (x ∷ xs)
 
 -- What is left once it is sent, and the answer: the state that follows, the message's id and the generator after it.
 abbrev pub purging : PollAnswer → Bool → PollAnswer
@@ -92,43 +92,43 @@ purging answer purge = record {
   purge = purge;
 }
 
-abbrev pub settledBy : Client → Tables → Drawn32 → Sending → PollAnswer → Polled
-settledBy c t drawn sending answer = record {
-  client = withSession (madeReady c t sending).client (awaiting sending drawn.value);
-  tables = (madeReady c t sending).tables;
+abbrev pub settled_by : Client → Tables → Drawn32 → Sending → PollAnswer → Polled
+settled_by c t drawn sending answer = record {
+  client = with_session (made_ready c t sending).client (awaiting sending drawn.value);
+  tables = (made_ready c t sending).tables;
   rand = drawn.rand;
-  outcome = Answered (purging answer (madeReady c t sending).purge);
+  outcome = Answered (purging answer (made_ready c t sending).purge);
 }
 
 abbrev pub moved : Client → Tables → Rand → List ℕ → Instant → Sending → PolledInto
 moved c t g buffer wake sending = record {
-  polled = settledBy c t (drawnFor c.session.transaction_id g sending) sending (builtInto buffer (endpointsOf c.lease sending) (datagramOf c g sending) wake);
-  buffer = bufferWith buffer (datagramOf c g sending);
+  polled = settled_by c t (drawn_for c.session.transaction_id g sending) sending (built_into buffer (endpoints_of c.lease sending) (datagramOf c g sending) wake);
+  buffer = buffer_with buffer (datagramOf c g sending);
 }
 
 -- 8: "message due, buffer not empty but shorter than that datagram".
-abbrev pub tooShort : List ℕ → ℕ → Bool
-tooShort [] size = false
-tooShort (x ∷ xs) size = ltb (length (x ∷ xs)) size
+abbrev pub too_short : List ℕ → ℕ → Bool
+too_short [] size = false
+too_short (x ∷ xs) size = ltb (length (x ∷ xs)) size
 
 unfoldable pub sent : Client → Tables → Rand → List ℕ → Instant → Sending → PolledInto
 sent c t g buffer wake sending =
-    if tooShort buffer (length (datagramOf c g sending)) then refusedBy c t g buffer 8
+    if too_short buffer (length (datagramOf c g sending)) then refused_by c t g buffer 8
     else moved c t g buffer wake sending
 
-abbrev pub polledAs : Client → Tables → Rand → List ℕ → Instant → Due → PolledInto
-polledAs c t g buffer wake Nothing = passed_by c t g buffer wake
-polledAs c t g buffer wake (Send sending) = sent c t g buffer wake sending
+abbrev pub polled_as : Client → Tables → Rand → List ℕ → Instant → Due → PolledInto
+polled_as c t g buffer wake Nothing = passed_by c t g buffer wake
+polled_as c t g buffer wake (Send sending) = sent c t g buffer wake sending
 
-abbrev pub polledBy : Client → Tables → Rand → List ℕ → Decision → PolledInto
-polledBy c t g buffer decision = polledAs c t g buffer decision.wake decision.due
+abbrev pub polled_by : Client → Tables → Rand → List ℕ → Decision → PolledInto
+polled_by c t g buffer decision = polled_as c t g buffer decision.wake decision.due
 
 -- The call with any waits: 9 first.
-unfoldable pub polledWith : Waits → Client → Tables → Rand → Instant → List ℕ → PolledInto
-polledWith w c t g now buffer =
-    if not (wholeAll c t) then refusedBy c t g buffer 9
-    else polledBy c t g buffer (decided w c.session.state now.millis)
+unfoldable pub polled_with : Waits → Client → Tables → Rand → Instant → List ℕ → PolledInto
+polled_with w c t g now buffer =
+    if not (whole_all c t) then refused_by c t g buffer 9
+    else polled_by c t g buffer (decided w c.session.state now.millis)
 
 -- The call, with the client's own waits.
 abbrev pub polled : Client → Tables → Rand → Instant → List ℕ → PolledInto
-polled c t g now buffer = polledWith (waitsOf c.settings) c t g now buffer
+polled c t g now buffer = polled_with (waits_of c.settings) c t g now buffer

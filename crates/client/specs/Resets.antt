@@ -1,12 +1,12 @@
 -- Resets (document 01): the lease is dropped, if one is held, and the client starts over.
 use Rattle.std.specs.Prelude.{false, not}
 use Rattle.choice.specs.Choice.{if◌then◌else◌}
-use Rattle.machine.specs.States.{hasLease}
+use Rattle.machine.specs.States.{has_lease}
 use Rattle.machine.specs.declared.state.ClientState.TheVariants.{Init}
 use Rattle.tables.specs.Applied.{applied}
 use Rattle.tables.specs.declared.tables.Tables.{Tables}
-use Rattle.lease.specs.Leases.{noLease, installed, nothing}
-use Rattle.client.specs.Clients.{withLease, withSession, inState, wholeAll}
+use Rattle.lease.specs.Leases.{no_lease, installed, nothing}
+use Rattle.client.specs.Clients.{with_lease, with_session, in_state, whole_all}
 use Rattle.client.specs.declared.client.Client.{Client}
 use Rattle.client.specs.declared.reset.Settled.{Settled}
 use Rattle.client.specs.declared.reset.WasReset.{WasReset}
@@ -14,24 +14,24 @@ use Rattle.client.specs.declared.reset.ResetOutcome.TheVariants.{Done, Refused}
 
 -- Where no lease is held, the client starts over, and nothing else changes.
 abbrev pub restarted : Client → Tables → Settled
-restarted c t = record { client = withSession c (inState c.session Init); tables = t; purge = false }
+restarted c t = record { client = with_session c (in_state c.session Init); tables = t; purge = false }
 
 -- Where one is, it is all zero after, and what it has put into the tables is out.
 abbrev pub dropped : Client → Tables → Settled
 dropped c t = record {
-  client = withLease c (inState c.session Init) noLease;
+  client = with_lease c (in_state c.session Init) no_lease;
   tables = (applied t nothing (installed c.lease)).tables;
   purge = (applied t nothing (installed c.lease)).purge;
 }
 
 unfoldable pub cleared : Client → Tables → Settled
-cleared c t = if hasLease c.session.state then dropped c t else restarted c t
+cleared c t = if has_lease c.session.state then dropped c t else restarted c t
 
 -- The call: 9, and then client and tables are as they came.
-abbrev pub resetDone : Settled → WasReset
-resetDone s = record { client = s.client; tables = s.tables; outcome = Done s.purge }
+abbrev pub reset_done : Settled → WasReset
+reset_done s = record { client = s.client; tables = s.tables; outcome = Done s.purge }
 
-unfoldable pub wasReset : Client → Tables → WasReset
-wasReset c t =
-    if not (wholeAll c t) then record { client = c; tables = t; outcome = Refused 9 }
-    else resetDone (cleared c t)
+unfoldable pub was_reset : Client → Tables → WasReset
+was_reset c t =
+    if not (whole_all c t) then record { client = c; tables = t; outcome = Refused 9 }
+    else reset_done (cleared c t)

@@ -2,16 +2,16 @@
 use Rattle.std.specs.Prelude.{ℕ, Bool, false, not, List}
 use Rattle.choice.specs.Choice.{if◌then◌else◌}
 use Rattle.clock.specs.declared.instant.Instant.{Instant}
-use Rattle.machine.specs.States.{hasLease, requesting}
+use Rattle.machine.specs.States.{has_lease, requesting}
 use Rattle.machine.specs.declared.state.ClientState.{ClientState}
 use Rattle.machine.specs.declared.state.ClientState.TheVariants.{Init, Discovering, Requesting, Renewing}
 use Rattle.machine.specs.declared.state.DhcpServerInfo.{DhcpServerInfo}
 use Rattle.tables.specs.Applied.{applied}
 use Rattle.tables.specs.declared.tables.Tables.{Tables}
 use Rattle.tables.specs.declared.apply.Installed.{Installed}
-use Rattle.lease.specs.Bound.{boundBy}
-use Rattle.lease.specs.Leases.{leaseOf, sameLease, installed, nothing}
-use Rattle.client.specs.Clients.{withLease, withSession, inState, wholeAll}
+use Rattle.lease.specs.Bound.{bound_by}
+use Rattle.lease.specs.Leases.{lease_of, same_lease, installed, nothing}
+use Rattle.client.specs.Clients.{with_lease, with_session, in_state, whole_all}
 use Rattle.client.specs.Resets.{cleared}
 use Rattle.judge.specs.Judged.{judged}
 use Rattle.lease.specs.declared.lease.DhcpLease.{DhcpLease}
@@ -28,61 +28,61 @@ use Rattle.client.specs.declared.process.ReplyOutcome.TheVariants as outcome
 
 -- Whose lease an ACK brings: in Requesting the server's that made the offer, in Renewing the one's that leased the address.
 -- No other state awaits an ACK.
-abbrev pub serverOf : ClientState → DhcpLease → DhcpServerInfo → DhcpServerInfo
-serverOf Init lease sender = sender
-serverOf (Discovering s) lease sender = sender
-serverOf (Requesting s) lease sender = s.server
-serverOf (Renewing s) lease sender = lease.server
+abbrev pub server_of : ClientState → DhcpLease → DhcpServerInfo → DhcpServerInfo
+server_of Init lease sender = sender
+server_of (Discovering s) lease sender = sender
+server_of (Requesting s) lease sender = s.server
+server_of (Renewing s) lease sender = lease.server
 
 -- Whether a lease is the one that is held, and what the one that is held has put into the tables.
 unfoldable pub holds : ClientState → DhcpLease → DhcpLease → Bool
-holds state held lease = if hasLease state then sameLease lease held else false
+holds state held lease = if has_lease state then same_lease lease held else false
 
-unfoldable pub heldBy : ClientState → DhcpLease → Installed
-heldBy state held = if hasLease state then installed held else nothing
+unfoldable pub held_by : ClientState → DhcpLease → Installed
+held_by state held = if has_lease state then installed held else nothing
 
 -- Another lease, in the place of the one that is held, if one is.
 abbrev pub entered : Client → Tables → Session → DhcpLease → Settled
 entered c t session lease = record {
-  client = withLease c session lease;
-  tables = (applied t (installed lease) (heldBy c.session.state c.lease)).tables;
-  purge = (applied t (installed lease) (heldBy c.session.state c.lease)).purge;
+  client = with_lease c session lease;
+  tables = (applied t (installed lease) (held_by c.session.state c.lease)).tables;
+  purge = (applied t (installed lease) (held_by c.session.state c.lease)).purge;
 }
 
 -- An ACK with its lease and the session that it leads to. "An ACK whose lease equals the one held (stored options included)
 -- moves the moments, ends rebinding as any accepted ACK does, and changes nothing else."
-unfoldable pub ackedAs : Client → Tables → Session → DhcpLease → Settled
-ackedAs c t session lease =
-    if holds c.session.state c.lease lease then record { client = withSession c session; tables = t; purge = false }
+unfoldable pub acked_as : Client → Tables → Session → DhcpLease → Settled
+acked_as c t session lease =
+    if holds c.session.state c.lease lease then record { client = with_session c session; tables = t; purge = false }
     else entered c t session lease
 
-abbrev pub ackLease : Client → List ℕ → Acked → DhcpLease
-ackLease c reply ack = leaseOf (serverOf c.session.state c.lease ack.server) ack.address ack.prefix reply
+abbrev pub ack_lease : Client → List ℕ → Acked → DhcpLease
+ack_lease c reply ack = lease_of (server_of c.session.state c.lease ack.server) ack.address ack.prefix reply
 
 unfoldable pub acked : Client → Tables → List ℕ → Instant → Acked → Settled
-acked c t reply moment ack = ackedAs c t (inState c.session (boundBy c.settings reply moment)) (ackLease c reply ack)
+acked c t reply moment ack = acked_as c t (in_state c.session (bound_by c.settings reply moment)) (ack_lease c reply ack)
 
 -- An OFFER: Requesting, due now.
 abbrev pub offered : Client → Tables → Instant → Offered → Settled
 offered c t moment offer = record {
-  client = withSession c (inState c.session (requesting offer.server offer.address moment));
+  client = with_session c (in_state c.session (requesting offer.server offer.address moment));
   tables = t;
   purge = false;
 }
 
 -- A reply after the verdict on it. One that is passed over leaves client and tables as they came.
-abbrev pub takenAs : Settled → Processed
-takenAs s = record { client = s.client; tables = s.tables; outcome = outcome.Taken s.purge }
+abbrev pub taken_as : Settled → Processed
+taken_as s = record { client = s.client; tables = s.tables; outcome = outcome.Taken s.purge }
 
 unfoldable pub replied : Client → Tables → List ℕ → Instant → Verdict → Processed
-replied c t reply moment (Offer offer) = takenAs (offered c t moment offer)
-replied c t reply moment (Ack ack) = takenAs (acked c t reply moment ack)
-replied c t reply moment Nak = takenAs (cleared c t)
+replied c t reply moment (Offer offer) = taken_as (offered c t moment offer)
+replied c t reply moment (Ack ack) = taken_as (acked c t reply moment ack)
+replied c t reply moment Nak = taken_as (cleared c t)
 replied c t reply moment (PassedOver number) = record { client = c; tables = t; outcome = outcome.PassedOver number }
 
 -- What of a client decides: hardware address, transaction id, state, and whether NAKs are ignored.
-abbrev pub recipientOf : Client → Recipient
-recipientOf c = record {
+abbrev pub recipient_of : Client → Recipient
+recipient_of c = record {
   hardware = c.settings.hardware;
   id = c.session.transaction_id;
   state = c.session.state;
@@ -92,5 +92,5 @@ recipientOf c = record {
 -- The call: 9 first, and then client and tables are as they came.
 unfoldable pub processed : Client → Tables → ℕ → List ℕ → Instant → Processed
 processed c t source reply moment =
-    if not (wholeAll c t) then record { client = c; tables = t; outcome = outcome.Refused 9 }
-    else replied c t reply moment (judged (recipientOf c) source reply)
+    if not (whole_all c t) then record { client = c; tables = t; outcome = outcome.Refused 9 }
+    else replied c t reply moment (judged (recipient_of c) source reply)

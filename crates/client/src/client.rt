@@ -1,7 +1,7 @@
 // The client, its creation, and number 9.
 ghost use Rattle.std.specs.Prelude.{◌≡◌};
 ghost use Rattle.client.specs.Calls.{calls};
-ghost use Rattle.client.specs.Clients.{noClient, fresh, wholeClient, leaseFits};
+ghost use Rattle.client.specs.Clients.{no_client, fresh, whole_client, lease_fits};
 
 use lease::DhcpLease;
 use machine::ClientState;
@@ -68,7 +68,7 @@ impl Client {
 
     // All zero.
     fn zero() -> Client
-        ensures { result ≡ noClient }
+        ensures { result ≡ no_client }
     {
         let settings = Settings::zero();
         let lease = DhcpLease::zero();
@@ -85,7 +85,7 @@ impl Client {
 
     // Whether number 9 finds nothing here: 1 to 7 don't refuse the settings, and a lease that is held is whole.
     pub fn is_whole(self) -> bool
-        ensures { result ≡ wholeClient self }
+        ensures { result ≡ whole_client self }
     {
         let session = self.session;
         let state = session.state;
@@ -98,7 +98,7 @@ impl Client {
 
 // Whether the lease is whole, where it is read.
 fn lease_fits(state: ClientState, lease: DhcpLease) -> bool
-    ensures { result ≡ leaseFits state lease }
+    ensures { result ≡ lease_fits state lease }
 {
     if state.has_lease() {
         return lease.is_whole();

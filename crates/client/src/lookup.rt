@@ -1,6 +1,6 @@
 // What can be looked up of a client; 9 where it is not whole.
 ghost use Rattle.std.specs.Prelude.{◌≡◌};
-ghost use Rattle.client.specs.Lookups.{leaseHeld, optionHeld, standing, notHeld};
+ghost use Rattle.client.specs.Lookups.{lease_held, option_held, standing, not_held};
 
 use crate::client::Client;
 use lease::DhcpLease;
@@ -25,7 +25,7 @@ pub enum Standing {
 impl Client {
     // The lease, if one is held.
     pub fn lease(self) -> Leased
-        ensures { result ≡ leaseHeld self }
+        ensures { result ≡ lease_held self }
     {
         let session = self.session;
         let state = session.state;
@@ -44,7 +44,7 @@ impl Client {
 
     // Where the data of a stored option of the lease lies in its store, and how long it is.
     pub fn get(self, kind: u8) -> Got
-        ensures { result ≡ optionHeld self kind }
+        ensures { result ≡ option_held self kind }
     {
         let session = self.session;
         let state = session.state;
@@ -72,7 +72,7 @@ impl Client {
 
 // No lease.
 fn unheld(held: Has) -> Leased
-    ensures { result ≡ notHeld held }
+    ensures { result ≡ not_held held }
 {
     let lease = DhcpLease::zero();
     Leased { lease, held }

@@ -3,7 +3,7 @@ ghost use Rattle.std.specs.Prelude.{◌≡◌};
 ghost use Rattle.client.specs.Calls.{calls};
 ghost use Rattle.client.specs.Resets.{dropped};
 ghost use Rattle.client.specs.Polls.{silent, built, purging};
-ghost use Rattle.client.specs.Changes.{unmoved, drops, movedBy, changeSent, pollChange, leftBy};
+ghost use Rattle.client.specs.Changes.{unmoved, drops, moved_by, change_sent, poll_change, left_by};
 
 use crate::client::{Client, Session};
 use clock::{Drawn32, Instant, Rand};
@@ -82,7 +82,7 @@ impl Client {
 
     // What the poll of a client that was found whole changes. Tables don't decide it.
     fn change(self, rand: Rand, moment: Instant, buf: &mut [u8]) -> PollChange
-        ensures { (result ≡ (pollChange self rand moment buf.old).change) × (buf.new ≡ (pollChange self rand moment buf.old).buffer) }
+        ensures { (result ≡ (poll_change self rand moment buf.old).change) × (buf.new ≡ (poll_change self rand moment buf.old).buffer) }
     {
         let session = self.session;
         let state = session.state;
@@ -101,7 +101,7 @@ impl Client {
 
     // What is left where the lease goes, and with it what it has put into the tables.
     fn dropping(mut self, tables: Tables, change: PollChange) -> Polled
-        ensures { result ≡ leftBy (dropped self tables) change }
+        ensures { result ≡ left_by (dropped self tables) change }
     {
         let applied = tables.dhcpv4_apply(nothing(), self.lease.installed());
         let left = applied.tables;
@@ -121,7 +121,7 @@ impl Client {
 
     // The rest of a poll in which a message is due.
     fn send(self, rand: Rand, wake: Instant, sending: Sending, buf: &mut [u8]) -> PollChange
-        ensures { (result ≡ (changeSent self rand buf.old wake sending).change) × (buf.new ≡ (changeSent self rand buf.old wake sending).buffer) }
+        ensures { (result ≡ (change_sent self rand buf.old wake sending).change) × (buf.new ≡ (change_sent self rand buf.old wake sending).buffer) }
     {
         let session = self.session;
         let state = session.state;
@@ -151,7 +151,7 @@ fn unmoved(session: Session, rand: Rand, outcome: PollOutcome) -> PollChange
 
 // A message is sent from a state.
 fn moved(state: ClientState, drawn: Drawn32, sending: Sending, answer: PollAnswer) -> PollChange
-    ensures { result ≡ movedBy state drawn sending answer }
+    ensures { result ≡ moved_by state drawn sending answer }
 {
     let drops = drops(state, sending);
     let rand = drawn.rand;

@@ -1,7 +1,7 @@
 // Replies: any bytes, from any source.
 ghost use Rattle.std.specs.Prelude.{◌≡◌};
 ghost use Rattle.client.specs.Calls.{calls};
-ghost use Rattle.client.specs.Taken.{recipientOf, takenAs};
+ghost use Rattle.client.specs.Taken.{recipient_of, taken_as};
 
 use crate::client::{Client, Session};
 use crate::reset::Settled;
@@ -81,7 +81,7 @@ impl Client {
 
     // What of this client decides on a reply.
     fn recipient(self) -> Recipient
-        ensures { result ≡ recipientOf self }
+        ensures { result ≡ recipient_of self }
     {
         let hardware = self.settings.hardware;
         let session = self.session;
@@ -98,7 +98,7 @@ impl Client {
 impl Settled {
     // The answer to a reply that was taken.
     pub(crate) fn taken(self) -> Processed
-        ensures { result ≡ takenAs self }
+        ensures { result ≡ taken_as self }
     {
         let client = self.client;
         let tables = self.tables;

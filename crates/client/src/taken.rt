@@ -1,6 +1,6 @@
 // What a reply that is taken as an ACK does to the client and its tables.
 ghost use Rattle.std.specs.Prelude.{◌≡◌};
-ghost use Rattle.client.specs.Taken.{serverOf, holds, heldBy, acked, entered};
+ghost use Rattle.client.specs.Taken.{server_of, holds, held_by, acked, entered};
 
 use crate::client::{Client, Session};
 use crate::reset::Settled;
@@ -60,7 +60,7 @@ impl Client {
 
 // Whose lease an ACK brings: the server's that made the offer, or that leased the address. Other states await no ACK.
 fn server(state: ClientState, lease: DhcpLease, sender: DhcpServerInfo) -> DhcpServerInfo
-    ensures { result ≡ serverOf state lease sender }
+    ensures { result ≡ server_of state lease sender }
 {
     let held = lease.server;
     match state {
@@ -83,7 +83,7 @@ fn holds(state: ClientState, held: DhcpLease, lease: DhcpLease) -> bool
 
 // What the lease that is held has put into the tables.
 fn held(state: ClientState, lease: DhcpLease) -> Installed
-    ensures { result ≡ heldBy state lease }
+    ensures { result ≡ held_by state lease }
 {
     if state.has_lease() {
         return lease.installed();

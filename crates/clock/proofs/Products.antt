@@ -5,8 +5,8 @@ use Rattle.std.proofs.Common.{◌≡◌, ℕ, ◌+◌, ◌*◌, ◌/◌, ◌%◌
 abbrev pub B : ℕ
 B = 4294967296
 
-pub product-fits : {a b : ℕ} → a < B → b < B → a * b < 2 ^ 64
-product-fits {a} {b} p q =
+pub product_fits : {a b : ℕ} → a < B → b < B → a * b < 2 ^ 64
+product_fits {a} {b} p q =
     let h : a * b ≤ 4294967295 * 4294967295 = mul-le-mul {n₂ = 4294967295} {m₂ = 4294967295} (omega arith) (omega arith) in
     omega arith
 
@@ -20,8 +20,8 @@ spread p q r s =
     let e₅ : q * (r * B) ≡ q * r * B = sym (mul_assoc q r B) in
     omega arith
 
-by-halves : (a b : ℕ) → a * b ≡ a / B * (b / B) * B * B + (a / B * (b % B) + a % B * (b / B)) * B + a % B * (b % B)
-by-halves a b =
+by_halves : (a b : ℕ) → a * b ≡ a / B * (b / B) * B * B + (a / B * (b % B) + a % B * (b / B)) * B + a % B * (b % B)
+by_halves a b =
     let ea : a ≡ a / B * B + a % B = omega arith in
     let eb : b ≡ b / B * B + b % B = omega arith in
     ap (λ (x : ℕ). x * b) ea ∙ ap (λ (y : ℕ). (a / B * B + a % B) * y) eb ∙ spread (a / B) (a % B) (b / B) (b % B)
@@ -30,8 +30,8 @@ by-halves a b =
 low_part : (h x l : ℕ) → (x % 2 ^ 64 % B * B + l) % 2 ^ 64 ≡ (h * B * B + x * B + l) % 2 ^ 64
 low_part h x l = omega arith
 
-pub wrapped-by-halves : (a b : ℕ) → ((a / B * (b % B) + a % B * (b / B)) % 2 ^ 64 % B * B + a % B * (b % B)) % 2 ^ 64 ≡ a * b % 2 ^ 64
-wrapped-by-halves a b = low_part (a / B * (b / B)) _ _ ∙ ap (λ (n : ℕ). n % 2 ^ 64) (sym (by-halves a b))
+pub wrapped_by_halves : (a b : ℕ) → ((a / B * (b % B) + a % B * (b / B)) % 2 ^ 64 % B * B + a % B * (b % B)) % 2 ^ 64 ≡ a * b % 2 ^ 64
+wrapped_by_halves a b = low_part (a / B * (b / B)) _ _ ∙ ap (λ (n : ℕ). n % 2 ^ 64) (sym (by_halves a b))
 
-pub wrap-add : (x a : ℕ) → (x % 2 ^ 64 + a) % 2 ^ 64 ≡ (x + a) % 2 ^ 64
-wrap-add x a = omega arith
+pub wrap_add : (x a : ℕ) → (x % 2 ^ 64 + a) % 2 ^ 64 ≡ (x + a) % 2 ^ 64
+wrap_add x a = omega arith

@@ -11,20 +11,20 @@ abbrev pub day : ℕ
 day = 86400000
 
 -- The clock of a poll at a moment that has gathered no deadline.
-unfoldable pub clockAt : ℕ → Clock
-clockAt now = record { now = moment now; next = moment (plus now day) }
+unfoldable pub clock_at : ℕ → Clock
+clock_at now = record { now = moment now; next = moment (plus now day) }
 
 -- The clock once it has gathered one more. `earlier` is not associative, so the order of gathering matters.
 unfoldable pub gathering : Clock → ℕ → Clock
 gathering c deadline = record { now = c.now; next = moment (earlier c.next.millis deadline) }
 
 -- Whether a deadline has come; one that has not is gathered.
-unfoldable pub expiredAt : Clock → ℕ → Expired
-expiredAt c deadline =
+unfoldable pub expired_at : Clock → ℕ → Expired
+expired_at c deadline =
     if due deadline c.now.millis then record { expired = true; clock = c }
     else record { expired = false; clock = gathering c deadline }
 
 -- A deadline set a wait from now, and gathered.
-unfoldable pub timerAfter : Clock → ℕ → TimerSet
-timerAfter c wait =
+unfoldable pub timer_after : Clock → ℕ → TimerSet
+timer_after c wait =
     record { deadline = moment (plus c.now.millis wait); clock = gathering c (plus c.now.millis wait) }

@@ -22,5 +22,5 @@ abbrev pub duration : ℕ → Duration
 duration millis = record { millis = millis }
 
 -- What a checked operation gives: none where the test says so, else the duration of so many milliseconds.
-unfoldable pub noneIf : Bool → ℕ → MaybeDuration
-noneIf test millis = if test then None else Some (duration millis)
+unfoldable pub none_if : Bool → ℕ → MaybeDuration
+none_if test millis = if test then None else Some (duration millis)

@@ -11,12 +11,12 @@ multiplier = 0xbb2efcec3c39611d
 abbrev pub increment : ℕ
 increment = 0x7590ef39
 
-unfoldable pub nextState : ℕ → ℕ
-nextState s = (s * multiplier + increment) % 2 ^ 64
+unfoldable pub next_state : ℕ → ℕ
+next_state s = (s * multiplier + increment) % 2 ^ 64
 
 -- The 32 bits of a state from bit 29 − (its top 3 bits) on.
-unfoldable pub outputOf : ℕ → ℕ
-outputOf s = s / 2 ^ (29 - s / 2 ^ 61) % 2 ^ 32
+unfoldable pub output_of : ℕ → ℕ
+output_of s = s / 2 ^ (29 - s / 2 ^ 61) % 2 ^ 32
 
 -- The generator with such a state.
 abbrev pub generator : ℕ → Rand
@@ -24,7 +24,7 @@ generator s = record { state = s }
 
 -- A draw: the state moves on, and the number is read off the new one.
 unfoldable pub drawn32 : Rand → Drawn32
-drawn32 g = record { rand = generator (nextState g.state); value = outputOf (nextState g.state) }
+drawn32 g = record { rand = generator (next_state g.state); value = output_of (next_state g.state) }
 
 -- A draw of 16 bits: the two halves of 32 that were drawn, joined by exclusive or.
 unfoldable pub drawn16 : Rand → Drawn16

@@ -2,7 +2,7 @@
 // is wanted, at most 24 hours on. A deadline that is asked about and has not come is gathered by the asking itself, so that
 // none is forgotten. A method that changes the clock hands it back.
 ghost use Rattle.std.specs.Prelude.{◌≡◌};
-ghost use Rattle.clock.specs.Clocks.{clockAt, gathering, expiredAt, timerAfter};
+ghost use Rattle.clock.specs.Clocks.{clock_at, gathering, expired_at, timer_after};
 
 use crate::duration::Duration;
 use crate::instant::Instant;
@@ -38,7 +38,7 @@ pub struct TimerSet {
 impl Clock {
     // A poll at now that has gathered nothing: the next one is wanted a day on.
     pub fn new(now: Instant) -> Clock
-        ensures { result ≡ clockAt now.millis }
+        ensures { result ≡ clock_at now.millis }
     {
         Clock {
             now,
@@ -61,7 +61,7 @@ impl Clock {
     // Whether a deadline has come. It has at its very moment: had it not, that poll would want another there and then, and
     // so would that one.
     pub fn expired(self, deadline: Instant) -> Expired
-        ensures { result ≡ expiredAt self deadline.millis }
+        ensures { result ≡ expired_at self deadline.millis }
     {
         let now = self.now;
         if deadline.is_at_or_before(now) {
@@ -90,7 +90,7 @@ impl Clock {
 
     // Sets a deadline so long from now, and gathers it.
     pub fn after(self, delay: Duration) -> TimerSet
-        ensures { result ≡ timerAfter self delay.millis }
+        ensures { result ≡ timer_after self delay.millis }
     {
         let now = self.now;
         let deadline = now.add(delay);

@@ -1,7 +1,7 @@
 // Lengths of time in milliseconds. What is made or added up here stops at Duration::MAX, so that no deadline lies too far
 // off to be compared with the present.
 ghost use Rattle.std.specs.Prelude.{◌≡◌, ◌+◌, ◌-◌, ◌*◌, ◌/◌, ◌%◌, min, max, ◌==◌, nat_lt};
-ghost use Rattle.clock.specs.Durations.{longest, clamp, seconds, duration, noneIf};
+ghost use Rattle.clock.specs.Durations.{longest, clamp, seconds, duration, none_if};
 
 use crate::product::product;
 
@@ -66,14 +66,14 @@ impl Duration {
 
     // The sum, or none where it is longer than MAX.
     pub fn checked_add(self, rhs: Duration) -> MaybeDuration
-        ensures { result ≡ noneIf (nat_lt longest (self.millis + rhs.millis)) (self.millis + rhs.millis) }
+        ensures { result ≡ none_if (nat_lt longest (self.millis + rhs.millis)) (self.millis + rhs.millis) }
     {
         within_max((self.millis as u64) + (rhs.millis as u64))
     }
 
     // The difference, or none where rhs is the longer one.
     pub fn checked_sub(self, rhs: Duration) -> MaybeDuration
-        ensures { result ≡ noneIf (nat_lt self.millis rhs.millis) (self.millis - rhs.millis) }
+        ensures { result ≡ none_if (nat_lt self.millis rhs.millis) (self.millis - rhs.millis) }
     {
         if rhs.millis <= self.millis {
             MaybeDuration::Some(Duration {
@@ -86,14 +86,14 @@ impl Duration {
 
     // The product, or none where it is longer than MAX.
     pub fn checked_mul(self, rhs: u32) -> MaybeDuration
-        ensures { result ≡ noneIf (nat_lt longest (self.millis * rhs)) (self.millis * rhs) }
+        ensures { result ≡ none_if (nat_lt longest (self.millis * rhs)) (self.millis * rhs) }
     {
         within_max(product(self.millis, rhs))
     }
 
     // The quotient, cut down, or none where rhs is zero.
     pub fn checked_div(self, rhs: u32) -> MaybeDuration
-        ensures { result ≡ noneIf (rhs == 0) (self.millis / rhs) }
+        ensures { result ≡ none_if (rhs == 0) (self.millis / rhs) }
     {
         if rhs == 0 {
             MaybeDuration::None
@@ -184,7 +184,7 @@ fn clamped(millis: u64) -> Duration
 
 // A duration of so many milliseconds, or none where that is longer than MAX.
 fn within_max(millis: u64) -> MaybeDuration
-    ensures { result ≡ noneIf (nat_lt longest millis) millis }
+    ensures { result ≡ none_if (nat_lt longest millis) millis }
 {
     if millis <= (Duration::MAX.millis as u64) {
         MaybeDuration::Some(Duration {

@@ -2,7 +2,7 @@
 // of two is before the other goes by the sign of their wrapped difference. That is the true order while they lie less than
 // 2^31 ms apart.
 ghost use Rattle.std.specs.Prelude.{◌≡◌, ◌*◌, ◌/◌, ◌%◌};
-ghost use Rattle.clock.specs.Durations.{clamp, duration, noneIf};
+ghost use Rattle.clock.specs.Durations.{clamp, duration, none_if};
 ghost use Rattle.clock.specs.Moments.{wrap, plus, gap, before, due, rest, earlier, later, moment};
 
 use crate::duration::{Duration, MaybeDuration};
@@ -95,7 +95,7 @@ impl Instant {
 
     // The time from an earlier moment to this one, or none where that moment is the later one.
     pub fn checked_duration_since(self, earlier: Instant) -> MaybeDuration
-        ensures { result ≡ noneIf (before self.millis earlier.millis) (clamp (gap self.millis earlier.millis)) }
+        ensures { result ≡ none_if (before self.millis earlier.millis) (clamp (gap self.millis earlier.millis)) }
     {
         if self.is_before(earlier) {
             return MaybeDuration::None;

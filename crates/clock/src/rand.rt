@@ -1,6 +1,6 @@
 // A small generator of random numbers, sPCG32, for transaction ids. It is not fit for secrets.
 ghost use Rattle.std.specs.Prelude.{◌≡◌, ◌/◌, ◌%◌, ◌^◌, bit_xor};
-ghost use Rattle.clock.specs.Generator.{nextState, outputOf, generator, drawn32, drawn16};
+ghost use Rattle.clock.specs.Generator.{next_state, output_of, generator, drawn32, drawn16};
 
 use crate::product::{WORD, wrapping_mul_u64};
 
@@ -65,14 +65,14 @@ pub fn draw(rand: &mut Rand) -> u32
 }
 
 fn next_state(state: u64) -> u64
-    ensures { result ≡ nextState state }
+    ensures { result ≡ next_state state }
 {
     std::num::wrapping_add_u64(wrapping_mul_u64(state, MULTIPLIER), INCREMENT)
 }
 
 // 32 bits of a state, from a place that its top 3 bits choose.
 fn output(state: u64) -> u32
-    ensures { result ≡ outputOf state }
+    ensures { result ≡ output_of state }
 {
     let shift = 29 - (state >> 61);
     ((state >> shift) % WORD) as u32

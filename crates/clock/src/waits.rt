@@ -1,6 +1,6 @@
 // The client's waits and its number of tries, in one record: the Rust's constants of these names.
 ghost use Rattle.std.specs.Prelude.{◌≡◌};
-ghost use Rattle.clock.specs.Waits.{standardWaits};
+ghost use Rattle.clock.specs.Waits.{standard_waits};
 
 use crate::duration::Duration;
 
@@ -18,7 +18,7 @@ pub struct Waits {
 
 impl Waits {
     pub fn standard() -> Waits
-        ensures { result ≡ standardWaits }
+        ensures { result ≡ standard_waits }
     {
         Waits {
             discover_timeout: Duration { millis: 10000 },

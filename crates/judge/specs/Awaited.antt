@@ -9,17 +9,17 @@ use Rattle.judge.specs.declared.awaited.Awaited.TheVariants.{Offer, Ack, Nak, No
 
 -- An OFFER is awaited in Discovering; an ACK in Requesting and Renewing, and a NAK there, unless they are ignored; in
 -- Init nothing is.
-unfoldable pub offerAlone : ℕ → Awaited
-offerAlone kind = if eqb kind offer then Offer else Nothing
+unfoldable pub offer_alone : ℕ → Awaited
+offer_alone kind = if eqb kind offer then Offer else Nothing
 
-unfoldable pub ackOrNak : ℕ → Bool → Awaited
-ackOrNak kind ignoring =
+unfoldable pub ack_or_nak : ℕ → Bool → Awaited
+ack_or_nak kind ignoring =
     if eqb kind ack then Ack
     else if eqb kind nak then (if ignoring then Nothing else Nak)
     else Nothing
 
 abbrev pub awaited : ClientState → ℕ → Bool → Awaited
 awaited Init kind ignoring = Nothing
-awaited (Discovering s) kind ignoring = offerAlone kind
-awaited (Requesting s) kind ignoring = ackOrNak kind ignoring
-awaited (Renewing s) kind ignoring = ackOrNak kind ignoring
+awaited (Discovering s) kind ignoring = offer_alone kind
+awaited (Requesting s) kind ignoring = ack_or_nak kind ignoring
+awaited (Renewing s) kind ignoring = ack_or_nak kind ignoring

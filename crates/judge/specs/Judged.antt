@@ -3,12 +3,12 @@
 -- from there upwards: length and header, message type, hardware address, id, identifier, then the state.
 use Rattle.std.specs.Prelude.{ℕ, Bool, false, not, List, eqb}
 use Rattle.choice.specs.Choice.{if◌then◌else◌}
-use Rattle.octets.specs.Addresses.{unicast, prefixLen}
-use Rattle.octets.specs.Codes.{maskCode, identifierCode}
+use Rattle.octets.specs.Addresses.{unicast, prefix_len}
+use Rattle.octets.specs.Codes.{mask_code, identifier_code}
 use Rattle.octets.specs.declared.number.MaybeNumber.{MaybeNumber}
 use Rattle.octets.specs.declared.number.MaybeNumber.TheVariants.{None, Some}
-use Rattle.wire.specs.Options.{optionData}
-use Rattle.wire.specs.Readings.{headerCheck, addressedTo, transactionId, yourAddress, messageType, address_of, ifUnicast}
+use Rattle.wire.specs.Options.{option_data}
+use Rattle.wire.specs.Readings.{header_check, addressed_to, transaction_id, your_address, message_type, address_of, if_unicast}
 use Rattle.wire.specs.declared.reply.Checked.{Checked}
 use Rattle.wire.specs.declared.reply.Checked.TheVariants as check
 use Rattle.machine.specs.declared.state.DhcpServerInfo.{DhcpServerInfo}
@@ -25,52 +25,52 @@ needing None number next = PassedOver number
 needing (Some n) number next = next n
 
 -- An OFFER: your-address and source unicast, 27.
-unfoldable pub judgedOffer : DhcpServerInfo → List ℕ → Verdict
-judgedOffer server reply =
-    needing (ifUnicast (yourAddress reply)) 27 (λ address.
+unfoldable pub judged_offer : DhcpServerInfo → List ℕ → Verdict
+judged_offer server reply =
+    needing (if_unicast (your_address reply)) 27 (λ address.
     if not (unicast server.address) then PassedOver 27
     else Offer (record { server = server; address = address }))
 
 -- An ACK: mask, 28; contiguity, 29; your-address unicast, 30.
-unfoldable pub judgedAddress : DhcpServerInfo → List ℕ → ℕ → Verdict
-judgedAddress server reply prefix =
-    needing (ifUnicast (yourAddress reply)) 30 (λ address.
+unfoldable pub judged_address : DhcpServerInfo → List ℕ → ℕ → Verdict
+judged_address server reply prefix =
+    needing (if_unicast (your_address reply)) 30 (λ address.
     Ack (record { server = server; address = address; prefix = prefix }))
 
-unfoldable pub judgedAck : DhcpServerInfo → List ℕ → Verdict
-judgedAck server reply =
-    needing (address_of (optionData maskCode reply)) 28 (λ mask.
-    needing (prefixLen mask) 29 (λ prefix.
-    judgedAddress server reply prefix))
+unfoldable pub judged_ack : DhcpServerInfo → List ℕ → Verdict
+judged_ack server reply =
+    needing (address_of (option_data mask_code reply)) 28 (λ mask.
+    needing (prefix_len mask) 29 (λ prefix.
+    judged_address server reply prefix))
 
 -- Then the state. What it does not await is passed over as 26.
-abbrev pub judgedAs : Awaited → DhcpServerInfo → List ℕ → Verdict
-judgedAs awaits.Offer server reply = judgedOffer server reply
-judgedAs awaits.Ack server reply = judgedAck server reply
-judgedAs awaits.Nak server reply = Nak
-judgedAs awaits.Nothing server reply = PassedOver 26
+abbrev pub judged_as : Awaited → DhcpServerInfo → List ℕ → Verdict
+judged_as awaits.Offer server reply = judged_offer server reply
+judged_as awaits.Ack server reply = judged_ack server reply
+judged_as awaits.Nak server reply = Nak
+judged_as awaits.Nothing server reply = PassedOver 26
 
-unfoldable pub judgedKind : Recipient → ℕ → List ℕ → ℕ → ℕ → Verdict
-judgedKind who source reply kind identifier =
-    judgedAs (awaited who.state kind who.ignoring) (record { address = source; identifier = identifier }) reply
+unfoldable pub judged_kind : Recipient → ℕ → List ℕ → ℕ → ℕ → Verdict
+judged_kind who source reply kind identifier =
+    judged_as (awaited who.state kind who.ignoring) (record { address = source; identifier = identifier }) reply
 
 -- Whether a reply's transaction id is the client's.
-abbrev pub isId : ℕ → MaybeNumber → Bool
-isId id None = false
-isId id (Some n) = eqb n id
+abbrev pub is_id : ℕ → MaybeNumber → Bool
+is_id id None = false
+is_id id (Some n) = eqb n id
 
 -- Client hardware address, 23; transaction id, 24; server identifier, which has to be there and is not compared, 25.
-unfoldable pub judgedSender : Recipient → ℕ → List ℕ → ℕ → Verdict
-judgedSender who source reply kind =
-    if not (addressedTo who.hardware reply) then PassedOver 23
-    else if not (isId who.id (transactionId reply)) then PassedOver 24
-    else needing (address_of (optionData identifierCode reply)) 25 (judgedKind who source reply kind)
+unfoldable pub judged_sender : Recipient → ℕ → List ℕ → ℕ → Verdict
+judged_sender who source reply kind =
+    if not (addressed_to who.hardware reply) then PassedOver 23
+    else if not (is_id who.id (transaction_id reply)) then PassedOver 24
+    else needing (address_of (option_data identifier_code reply)) 25 (judged_kind who source reply kind)
 
 -- Length, 20, and header, 21; message type, 22; then the above.
-abbrev pub afterHeader : Checked → Verdict → Verdict
-afterHeader (check.PassedOver number) next = PassedOver number
-afterHeader check.Passes next = next
+abbrev pub after_header : Checked → Verdict → Verdict
+after_header (check.PassedOver number) next = PassedOver number
+after_header check.Passes next = next
 
 unfoldable pub judged : Recipient → ℕ → List ℕ → Verdict
 judged who source reply =
-    afterHeader (headerCheck reply) (needing (messageType reply) 22 (judgedSender who source reply))
+    after_header (header_check reply) (needing (message_type reply) 22 (judged_sender who source reply))

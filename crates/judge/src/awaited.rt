@@ -1,6 +1,6 @@
 // Which reply a state awaits.
 ghost use Rattle.std.specs.Prelude.{◌≡◌};
-ghost use Rattle.judge.specs.Awaited.{awaited, offerAlone, ackOrNak};
+ghost use Rattle.judge.specs.Awaited.{awaited, offer_alone, ack_or_nak};
 
 use machine::ClientState;
 use octets::codes::{ACK, NAK, OFFER};
@@ -30,7 +30,7 @@ impl Awaited {
 
 // Discovering awaits an OFFER alone.
 fn offer_alone(kind: u32) -> Awaited
-    ensures { result ≡ offerAlone kind }
+    ensures { result ≡ offer_alone kind }
 {
     if kind == OFFER as u32 {
         return Awaited::Offer;
@@ -40,7 +40,7 @@ fn offer_alone(kind: u32) -> Awaited
 
 // Requesting and Renewing await an ACK, and a NAK unless these are ignored.
 fn ack_or_nak(kind: u32, ignoring: bool) -> Awaited
-    ensures { result ≡ ackOrNak kind ignoring }
+    ensures { result ≡ ack_or_nak kind ignoring }
 {
     if kind == ACK as u32 {
         return Awaited::Ack;

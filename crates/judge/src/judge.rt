@@ -1,6 +1,6 @@
 // Judging a reply: whether a client takes it, and as what. It needs neither the lease nor the tables.
 ghost use Rattle.std.specs.Prelude.{◌≡◌, ◌≤◌};
-ghost use Rattle.judge.specs.Judged.{isId, judged, judgedSender, judgedKind, judgedOffer, judgedAck, judgedAddress};
+ghost use Rattle.judge.specs.Judged.{is_id, judged, judged_sender, judged_kind, judged_offer, judged_ack, judged_address};
 
 use crate::awaited::Awaited;
 use machine::{ClientState, DhcpServerInfo};
@@ -55,7 +55,7 @@ impl Recipient {
 
     // Client hardware address, transaction id, server identifier.
     fn judge_sender(self, source: u32, reply: &[u8], kind: u32) -> Verdict
-        ensures { result ≡ judgedSender self source reply.now kind }
+        ensures { result ≡ judged_sender self source reply.now kind }
     {
         let hardware = self.hardware;
         if !wire::reply::is_addressed_to(reply, hardware) {
@@ -72,7 +72,7 @@ impl Recipient {
 
     // The state.
     fn judge_kind(self, source: u32, reply: &[u8], kind: u32, identifier: u32) -> Verdict
-        ensures { result ≡ judgedKind self source reply.now kind identifier }
+        ensures { result ≡ judged_kind self source reply.now kind identifier }
     {
         let state = self.state;
         let server = DhcpServerInfo {
@@ -90,7 +90,7 @@ impl Recipient {
 
 // Whether a reply's transaction id is the client's.
 fn is_id(id: u32, found: MaybeNumber) -> bool
-    ensures { result ≡ isId id found }
+    ensures { result ≡ is_id id found }
 {
     match found {
         MaybeNumber::Some(n) => n == id,
@@ -100,7 +100,7 @@ fn is_id(id: u32, found: MaybeNumber) -> bool
 
 // An OFFER: your-address and source unicast.
 fn judge_offer(server: DhcpServerInfo, reply: &[u8]) -> Verdict
-    ensures { result ≡ judgedOffer server reply.now }
+    ensures { result ≡ judged_offer server reply.now }
 {
     match wire::reply::unicast_only(wire::reply::your_ip(reply)) {
         MaybeNumber::None => Verdict::PassedOver(27),
@@ -115,7 +115,7 @@ fn judge_offer(server: DhcpServerInfo, reply: &[u8]) -> Verdict
 
 // An ACK: mask, contiguity, your-address.
 fn judge_ack(server: DhcpServerInfo, reply: &[u8]) -> Verdict
-    ensures { result ≡ judgedAck server reply.now }
+    ensures { result ≡ judged_ack server reply.now }
 {
     match wire::reply::option_address(reply, OPT_SUBNET_MASK) {
         MaybeNumber::None => Verdict::PassedOver(28),
@@ -129,7 +129,7 @@ fn judge_ack(server: DhcpServerInfo, reply: &[u8]) -> Verdict
 // Your-address of an ACK whose prefix is known.
 fn judge_address(server: DhcpServerInfo, reply: &[u8], prefix: u32) -> Verdict
     requires { prefix ≤ 32 }
-    ensures { result ≡ judgedAddress server reply.now prefix }
+    ensures { result ≡ judged_address server reply.now prefix }
 {
     match wire::reply::unicast_only(wire::reply::your_ip(reply)) {
         MaybeNumber::None => Verdict::PassedOver(30),

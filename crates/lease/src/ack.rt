@@ -1,6 +1,6 @@
 // The moments of an ACK: when it is to be renewed, rebound and dropped.
 ghost use Rattle.std.specs.Prelude.{◌≡◌};
-ghost use Rattle.lease.specs.Bound.{boundBy, replyRow};
+ghost use Rattle.lease.specs.Bound.{bound_by, reply_row};
 
 use clock::{Duration, Instant};
 use machine::{ClientState, Row};
@@ -9,7 +9,7 @@ use settings::Settings;
 
 // Renewing, by the times of an ACK.
 pub fn bound(settings: Settings, reply: &[u8], moment: Instant) -> ClientState
-    ensures { result ≡ boundBy settings reply.now moment }
+    ensures { result ≡ bound_by settings reply.now moment }
 {
     let maximum = settings.longest_lease();
     let said = wire::reply::option_seconds(reply, OPT_IP_LEASE_TIME);
@@ -20,7 +20,7 @@ pub fn bound(settings: Settings, reply: &[u8], moment: Instant) -> ClientState
 
 // The row of the table of T1 and T2 that an ACK with a lease of this length falls under.
 fn row_of(reply: &[u8], lease: Duration) -> Row
-    ensures { result ≡ replyRow reply.now lease.millis }
+    ensures { result ≡ reply_row reply.now lease.millis }
 {
     let renew = machine::timer(wire::reply::option_seconds(reply, OPT_RENEWAL_TIME_VALUE));
     let rebind = machine::timer(wire::reply::option_seconds(reply, OPT_REBINDING_TIME_VALUE));

@@ -1,6 +1,6 @@
 // The lease that a client holds, all of it by value.
 ghost use Rattle.std.specs.Prelude.{◌≡◌};
-ghost use Rattle.lease.specs.Leases.{noLease, wholeLease, sameTerms, sameAddresses, sameLease, installed, nothing, leaseOf};
+ghost use Rattle.lease.specs.Leases.{no_lease, whole_lease, same_terms, same_addresses, same_lease, installed, nothing, lease_of};
 
 use machine::DhcpServerInfo;
 use octets::MaybeNumber;
@@ -28,7 +28,7 @@ const DNS_LIMIT: usize = 3;
 impl DhcpLease {
     // All zero.
     pub fn zero() -> DhcpLease
-        ensures { result ≡ noLease }
+        ensures { result ≡ no_lease }
     {
         DhcpLease {
             server: DhcpServerInfo {
@@ -48,7 +48,7 @@ impl DhcpLease {
 
     // The lease of an ACK with this address and prefix.
     pub fn of_ack(server: DhcpServerInfo, address: u32, prefix: u8, reply: &[u8]) -> DhcpLease
-        ensures { result ≡ leaseOf server address prefix reply.now }
+        ensures { result ≡ lease_of server address prefix reply.now }
     {
         let router = wire::reply::router(reply);
         let dns = wire::reply::option_addresses(reply, OPT_DOMAIN_NAME_SERVER);
@@ -65,7 +65,7 @@ impl DhcpLease {
 
     // Whether number 9 finds nothing here: no prefix over 32, no count over 3, stored options that are whole items.
     pub fn is_whole(self) -> bool
-        ensures { result ≡ wholeLease self }
+        ensures { result ≡ whole_lease self }
     {
         let options = self.options;
         if PREFIX_LIMIT < self.prefix {
@@ -79,7 +79,7 @@ impl DhcpLease {
 
     // Whether two leases are the same, stored options included.
     pub fn equals(self, other: DhcpLease) -> bool
-        ensures { result ≡ sameLease self other }
+        ensures { result ≡ same_lease self other }
     {
         let dns = self.dns;
         let options = self.options;
@@ -91,7 +91,7 @@ impl DhcpLease {
 
     // Whether two leases are the same but for DNS servers and stored options.
     fn same_terms(self, other: DhcpLease) -> bool
-        ensures { result ≡ sameTerms self other }
+        ensures { result ≡ same_terms self other }
     {
         let router = self.router;
         let gateway = other.router;
@@ -129,7 +129,7 @@ pub fn nothing() -> Installed
 
 // Whether two lists of addresses are the same, as far as they are in use.
 fn same_addresses(a: Addresses, b: Addresses) -> bool
-    ensures { result ≡ sameAddresses a b }
+    ensures { result ≡ same_addresses a b }
 {
     let x = a.list;
     let y = b.list;

@@ -7,36 +7,36 @@ use Rattle.clock.specs.Durations.{longest}
 use Rattle.clock.specs.declared.duration.Duration.{Duration}
 use Rattle.clock.specs.declared.duration.MaybeDuration.{MaybeDuration}
 use Rattle.clock.specs.declared.duration.MaybeDuration.TheVariants as time
-use Rattle.choice.proofs.Choices.{if-cases}
+use Rattle.choice.proofs.Choices.{if_cases}
 use Rattle.octets.specs.declared.number.MaybeNumber.{MaybeNumber}
 use Rattle.octets.specs.declared.number.MaybeNumber.TheVariants.{None, Some}
-use Rattle.machine.specs.Times.{leaseTime, row_of, bothRow, renewAfter, rebindAfter}
+use Rattle.machine.specs.Times.{lease_time, row_of, both_row, renew_after, rebind_after}
 use Rattle.machine.specs.declared.times.Row.{Row}
 
-pub lease-most : (said : MaybeNumber) (maximum : MaybeDuration) → leaseTime said maximum ≤ longest
-unfolding leaseTime
-lease-most None time.None = omega arith
-lease-most None (time.Some m) = omega arith
-lease-most (Some s) time.None = omega arith
-lease-most (Some s) (time.Some m) = omega arith
+pub lease_most : (said : MaybeNumber) (maximum : MaybeDuration) → lease_time said maximum ≤ longest
+unfolding lease_time
+lease_most None time.None = omega arith
+lease_most None (time.Some m) = omega arith
+lease_most (Some s) time.None = omega arith
+lease_most (Some s) (time.Some m) = omega arith
 
 -- renew and rebind lie less far on than the longest duration
 abbrev pub Nearer : ℕ → Row → Type 0
-Nearer l row = (renewAfter row l < longest) × (rebindAfter row l < longest)
+Nearer l row = (renew_after row l < longest) × (rebind_after row l < longest)
 
-both-nearer : (t1 t2 : Duration) (l : ℕ) → l ≤ longest → Nearer l (bothRow t1 t2 l)
-unfolding bothRow
-both-nearer t1 t2 l h =
-    if-cases (Nearer l) (ltb t1.millis t2.millis)
-    (λ p. if-cases (Nearer l) (ltb t2.millis l)
+both_nearer : (t1 t2 : Duration) (l : ℕ) → l ≤ longest → Nearer l (both_row t1 t2 l)
+unfolding both_row
+both_nearer t1 t2 l h =
+    if_cases (Nearer l) (ltb t1.millis t2.millis)
+    (λ p. if_cases (Nearer l) (ltb t2.millis l)
     (λ q. (omega (arith, ltb-true t1.millis t2.millis p, ltb-true t2.millis l q), omega (arith, ltb-true t2.millis l q)))
     (λ q. (omega arith, omega arith)))
     (λ p. (omega arith, omega arith))
 
-pub row-nearer : (t1 t2 : MaybeDuration) (l : ℕ) → l ≤ longest → Nearer l (row_of t1 t2 l)
-row-nearer (time.Some t1) (time.Some t2) l h = both-nearer t1 t2 l h
-row-nearer (time.Some t1) time.None l h =
-    if-cases (Nearer l) (ltb t1.millis l) (λ p. (omega (arith, ltb-true t1.millis l p), omega (arith, ltb-true t1.millis l p))) (λ p. (omega arith, omega arith))
-row-nearer time.None (time.Some t2) l h =
-    if-cases (Nearer l) (ltb t2.millis l) (λ p. (omega (arith, ltb-true t2.millis l p), omega (arith, ltb-true t2.millis l p))) (λ p. (omega arith, omega arith))
-row-nearer time.None time.None l h = (omega arith, omega arith)
+pub row_nearer : (t1 t2 : MaybeDuration) (l : ℕ) → l ≤ longest → Nearer l (row_of t1 t2 l)
+row_nearer (time.Some t1) (time.Some t2) l h = both_nearer t1 t2 l h
+row_nearer (time.Some t1) time.None l h =
+    if_cases (Nearer l) (ltb t1.millis l) (λ p. (omega (arith, ltb-true t1.millis l p), omega (arith, ltb-true t1.millis l p))) (λ p. (omega arith, omega arith))
+row_nearer time.None (time.Some t2) l h =
+    if_cases (Nearer l) (ltb t2.millis l) (λ p. (omega (arith, ltb-true t2.millis l p), omega (arith, ltb-true t2.millis l p))) (λ p. (omega arith, omega arith))
+row_nearer time.None time.None l h = (omega arith, omega arith)

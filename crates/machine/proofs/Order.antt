@@ -9,17 +9,17 @@ use Rattle.clock.specs.Durations.{seconds}
 use Rattle.clock.specs.declared.duration.Duration.{Duration}
 use Rattle.clock.specs.declared.duration.MaybeDuration.{MaybeDuration}
 use Rattle.clock.specs.declared.duration.MaybeDuration.TheVariants as time
-use Rattle.choice.proofs.Choices.{if-cases}
+use Rattle.choice.proofs.Choices.{if_cases}
 use Rattle.octets.specs.declared.number.MaybeNumber.{MaybeNumber}
 use Rattle.octets.specs.declared.number.MaybeNumber.TheVariants.{None, Some}
-use Rattle.machine.specs.Times.{leaseTime, row_of, bothRow, renewAfter, rebindAfter}
+use Rattle.machine.specs.Times.{lease_time, row_of, both_row, renew_after, rebind_after}
 use Rattle.machine.specs.declared.times.Row.{Row}
 use Rattle.machine.specs.declared.times.Row.TheVariants.{OnlyRenew, OnlyRebind, Neither}
 
 -- renew ≤ rebind ≤ L
 pub record Ordered (l : ℕ) (row : Row) : Type 0 where
-  pub renew : renewAfter row l ≤ rebindAfter row l
-  pub rebind : rebindAfter row l ≤ l
+  pub renew : renew_after row l ≤ rebind_after row l
+  pub rebind : rebind_after row l ≤ l
 
 -- absent, or at least 8 ms
 abbrev pub Enough : MaybeDuration → Type 0
@@ -28,47 +28,47 @@ Enough (time.Some maximum) = 8 ≤ maximum.millis
 
 -- a lease under such a maximum is 0 or at least 8 ms
 module _ (P : ℕ → Type 0) (none_left : P 0) (left : (l : ℕ) → 8 ≤ l → P l) where
-  of-seconds : (s : ℕ) (maximum : MaybeDuration) → Enough maximum → P (leaseTime (Some s) maximum)
-  unfolding leaseTime
-  of-seconds zero time.None h = none_left
-  of-seconds zero (time.Some m) h = rw (none_of m.millis) none_left
+  of_seconds : (s : ℕ) (maximum : MaybeDuration) → Enough maximum → P (lease_time (Some s) maximum)
+  unfolding lease_time
+  of_seconds zero time.None h = none_left
+  of_seconds zero (time.Some m) h = rw (none_of m.millis) none_left
     where
       none_of : (n : ℕ) → min 0 n ≡ 0
       none_of n = omega arith
-  of-seconds (suc s) time.None h = left (seconds (suc s)) (omega arith)
-  of-seconds (suc s) (time.Some m) h = left (min (seconds (suc s)) m.millis) (omega arith)
+  of_seconds (suc s) time.None h = left (seconds (suc s)) (omega arith)
+  of_seconds (suc s) (time.Some m) h = left (min (seconds (suc s)) m.millis) (omega arith)
 
-  pub lease-length : (said : MaybeNumber) (maximum : MaybeDuration) → Enough maximum → P (leaseTime said maximum)
-  unfolding leaseTime
-  lease-length (Some s) maximum h = of-seconds s maximum h
-  lease-length None time.None h = left (seconds 120) (omega arith)
-  lease-length None (time.Some m) h = left (min (seconds 120) m.millis) (omega arith)
+  pub lease_length : (said : MaybeNumber) (maximum : MaybeDuration) → Enough maximum → P (lease_time said maximum)
+  unfolding lease_time
+  lease_length (Some s) maximum h = of_seconds s maximum h
+  lease_length None time.None h = left (seconds 120) (omega arith)
+  lease_length None (time.Some m) h = left (min (seconds 120) m.millis) (omega arith)
 
-ordered-both : (t1 t2 : Duration) (l : ℕ) → Ordered l Neither → Ordered l (bothRow t1 t2 l)
-unfolding bothRow
-ordered-both t1 t2 l else =
-    if-cases (Ordered l) (ltb t1.millis t2.millis)
-    (λ h. if-cases (Ordered l) (ltb t2.millis l) (λ k. record { renew = le_of_lt (ltb-true _ _ h); rebind = le_of_lt (ltb-true _ _ k) }) (λ k. else))
+ordered_both : (t1 t2 : Duration) (l : ℕ) → Ordered l Neither → Ordered l (both_row t1 t2 l)
+unfolding both_row
+ordered_both t1 t2 l else =
+    if_cases (Ordered l) (ltb t1.millis t2.millis)
+    (λ h. if_cases (Ordered l) (ltb t2.millis l) (λ k. record { renew = le_of_lt (ltb-true _ _ h); rebind = le_of_lt (ltb-true _ _ k) }) (λ k. else))
     (λ h. else)
   where
     le_of_lt : {a b : ℕ} → a < b → a ≤ b
     le_of_lt h = omega arith
 
 -- every row is in order if the last one is
-ordered-row : (t1 t2 : MaybeDuration) (l : ℕ) → Ordered l Neither → Ordered l (row_of t1 t2 l)
-ordered-row (time.Some t1) (time.Some t2) l else = ordered-both t1 t2 l else
-ordered-row (time.Some t1) time.None l else = if-cases (Ordered l) (ltb t1.millis l) (λ h. only (ltb-true _ _ h)) (λ h. else)
+ordered_row : (t1 t2 : MaybeDuration) (l : ℕ) → Ordered l Neither → Ordered l (row_of t1 t2 l)
+ordered_row (time.Some t1) (time.Some t2) l else = ordered_both t1 t2 l else
+ordered_row (time.Some t1) time.None l else = if_cases (Ordered l) (ltb t1.millis l) (λ h. only (ltb-true _ _ h)) (λ h. else)
   where
     only : t1.millis < l → Ordered l (OnlyRenew t1)
     only h = record { renew = omega arith; rebind = omega arith }
-ordered-row time.None (time.Some t2) l else = if-cases (Ordered l) (ltb t2.millis l) (λ h. only (ltb-true _ _ h)) (λ h. else)
+ordered_row time.None (time.Some t2) l else = if_cases (Ordered l) (ltb t2.millis l) (λ h. only (ltb-true _ _ h)) (λ h. else)
   where
     only : t2.millis < l → Ordered l (OnlyRebind t2)
     only h = record { renew = omega arith; rebind = omega arith }
-ordered-row time.None time.None l else = else
+ordered_row time.None time.None l else = else
 
 pub in_order : (said : MaybeNumber) (t1 t2 maximum : MaybeDuration) → Enough maximum
-    → Ordered (leaseTime said maximum) (row_of t1 t2 (leaseTime said maximum))
+    → Ordered (lease_time said maximum) (row_of t1 t2 (lease_time said maximum))
 in_order said t1 t2 maximum h =
-    ordered-row t1 t2 (leaseTime said maximum)
-    (lease-length (λ l. Ordered l Neither) (record { renew = omega arith; rebind = omega arith }) (λ l n. record { renew = omega arith; rebind = omega arith }) said maximum h)
+    ordered_row t1 t2 (lease_time said maximum)
+    (lease_length (λ l. Ordered l Neither) (record { renew = omega arith; rebind = omega arith }) (λ l n. record { renew = omega arith; rebind = omega arith }) said maximum h)

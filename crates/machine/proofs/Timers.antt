@@ -75,17 +75,17 @@ Coming B t d = (t < d) × (d ≤ t + B)
 abbrev pub Ahead : ℕ → Timers → Type 0
 Ahead t x = Each ⊥ (Coming longest t) (Coming nearer t) x
 
-pub dated-later : (k y t : ℕ) (x : Timers) → Dated k t x → Dated (k + y) (t + y) x
-dated-later k y t x h = each_map (λ i. i) (λ d o. omega arith) (λ d o. omega arith) x h
+pub dated_later : (k y t : ℕ) (x : Timers) → Dated k t x → Dated (k + y) (t + y) x
+dated_later k y t x h = each_map (λ i. i) (λ d o. omega arith) (λ d o. omega arith) x h
 
-pub dated-near : (k t : ℕ) (x : Timers) → k ≤ longest → Dated k t x → Near t x
-dated-near k t x l h = each_map (λ i. i) (λ d o. omega arith) (λ d o. omega arith) x h
+pub dated_near : (k t : ℕ) (x : Timers) → k ≤ longest → Dated k t x → Near t x
+dated_near k t x l h = each_map (λ i. i) (λ d o. omega arith) (λ d o. omega arith) x h
 
-pub ahead-dated : (t : ℕ) (x : Timers) → Ahead t x → Dated 0 t x
-ahead-dated t x h = each_map (λ i. tt) (λ d o. omega arith) (λ d o. omega arith) x h
+pub ahead_dated : (t : ℕ) (x : Timers) → Ahead t x → Dated 0 t x
+ahead_dated t x h = each_map (λ i. tt) (λ d o. omega arith) (λ d o. omega arith) x h
 
-pub ahead-near : (t u : ℕ) (x : Timers) → Ahead t x → t ≤ u → u ≤ t + day → Near u x
-ahead-near t u x h p q = each_map (λ i. tt) (λ d o. omega arith) (λ d o. omega arith) x h
+pub ahead_near : (t u : ℕ) (x : Timers) → Ahead t x → t ≤ u → u ≤ t + day → Near u x
+ahead_near t u x h p q = each_map (λ i. tt) (λ d o. omega arith) (λ d o. omega arith) x h
 
 -- The first open deadline, and the waking moment.
 abbrev pub soonest : Timers → ℕ
@@ -94,11 +94,11 @@ soonest (single r) = r
 soonest (leased a b e true) = min e b
 soonest (leased a b e false) = min e (min a b)
 
-abbrev pub wakeAt : ℕ → Timers → ℕ
-wakeAt t x = min (t + day) (soonest x)
+abbrev pub wake_at : ℕ → Timers → ℕ
+wake_at t x = min (t + day) (soonest x)
 
-pub soonest-ahead : (t : ℕ) (x : Timers) → Ahead t x → t < soonest x
-soonest-ahead t unset h = absurd h
-soonest-ahead t (single r) h = h.0
-soonest-ahead t (leased a b e true) h = omega arith
-soonest-ahead t (leased a b e false) h = omega arith
+pub soonest_ahead : (t : ℕ) (x : Timers) → Ahead t x → t < soonest x
+soonest_ahead t unset h = absurd h
+soonest_ahead t (single r) h = h.0
+soonest_ahead t (leased a b e true) h = omega arith
+soonest_ahead t (leased a b e false) h = omega arith

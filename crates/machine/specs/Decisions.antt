@@ -38,75 +38,75 @@ discovering w now = record { retry_at = moment (plus now w.discover_timeout.mill
 abbrev pub discovers : Waits → ℕ → Decision
 discovers w now = sends now (Discover (discovering w now)) ((discovering w now).retry_at.millis ∷ [])
 
-unfoldable pub decidedDiscovering : Waits → DiscoverState → ℕ → Decision
-decidedDiscovering w s now =
+unfoldable pub decided_discovering : Waits → DiscoverState → ℕ → Decision
+decided_discovering w s now =
     if due s.retry_at.millis now then discovers w now
     else waits now (s.retry_at.millis ∷ [])
 
 -- "Request in Requesting: waits 5, 5, 10, 10, 20 s": the first wait, doubled at every second try.
-abbrev pub requestWait : Waits → ℕ → ℕ
-requestWait w tried = clamp (w.initial_request_timeout.millis * 2 ^ (tried / 2))
+abbrev pub request_wait : Waits → ℕ → ℕ
+request_wait w tried = clamp (w.initial_request_timeout.millis * 2 ^ (tried / 2))
 
 abbrev pub requested : Waits → RequestState → ℕ → RequestState
 requested w s now = record {
-  tries = record { retry_at = moment (plus now (requestWait w s.tries.retry)); retry = s.tries.retry + 1 };
+  tries = record { retry_at = moment (plus now (request_wait w s.tries.retry)); retry = s.tries.retry + 1 };
   server = s.server;
   requested_ip = s.requested_ip;
 }
 
 -- "The sixth expiry in Requesting resets and discovers in one poll."
-unfoldable pub decidedRequesting : Waits → RequestState → ℕ → Decision
-decidedRequesting w s now =
+unfoldable pub decided_requesting : Waits → RequestState → ℕ → Decision
+decided_requesting w s now =
     if not (due s.tries.retry_at.millis now) then waits now (s.tries.retry_at.millis ∷ [])
     else if leb w.request_retries s.tries.retry then discovers w now
     else sends now (Request (requested w s now)) ((requested w s now).tries.retry_at.millis ∷ [])
 
 -- "at the earlier of renew and rebind (once rebinding, at rebind alone)"
-unfoldable pub retryAt : RenewState → ℕ
-retryAt s = if s.rebinding then s.rebind_at.millis else earlier s.renew_at.millis s.rebind_at.millis
+unfoldable pub next_retry : RenewState → ℕ
+next_retry s = if s.rebinding then s.rebind_at.millis else earlier s.renew_at.millis s.rebind_at.millis
 
 -- Whether a Request is of rebinding: "from rebind on", which the Rust reads as not before it.
 unfoldable pub rebinds : RenewState → ℕ → Bool
 rebinds s now = if s.rebinding then true else not (before now s.rebind_at.millis)
 
 -- "Before rebind it [..] waits max(60 s, rest to rebind / 2), at most that rest."
-abbrev pub renewWait : Waits → RenewState → ℕ → ℕ
-renewWait w s now =
+abbrev pub renew_wait : Waits → RenewState → ℕ → ℕ
+renew_wait w s now =
     min (max w.min_renew_timeout.millis (rest s.rebind_at.millis now / 2)) (rest s.rebind_at.millis now)
 
 abbrev pub renewed : Waits → RenewState → ℕ → RenewState
 renewed w s now = record {
-  renew_at = moment (plus now (renewWait w s now));
+  renew_at = moment (plus now (renew_wait w s now));
   rebind_at = s.rebind_at;
   expires_at = s.expires_at;
   rebinding = false;
 }
 
 -- "From rebind on it is broadcast and waits max(60 s, rest to expiry / 2), which may pass expiry."
-abbrev pub rebindWait : Waits → RenewState → ℕ → ℕ
-rebindWait w s now = max w.min_renew_timeout.millis (rest s.expires_at.millis now / 2)
+abbrev pub rebind_wait : Waits → RenewState → ℕ → ℕ
+rebind_wait w s now = max w.min_renew_timeout.millis (rest s.expires_at.millis now / 2)
 
 abbrev pub rebound : Waits → RenewState → ℕ → RenewState
 rebound w s now = record {
   renew_at = s.renew_at;
-  rebind_at = moment (plus now (rebindWait w s now));
+  rebind_at = moment (plus now (rebind_wait w s now));
   expires_at = s.expires_at;
   rebinding = true;
 }
 
 -- "Renewing: expiry first, which resets and discovers in that poll; then [..] a Request."
-unfoldable pub decidedRenewing : Waits → RenewState → ℕ → Decision
-decidedRenewing w s now =
+unfoldable pub decided_renewing : Waits → RenewState → ℕ → Decision
+decided_renewing w s now =
     if due s.expires_at.millis now then discovers w now
-    else if not (due (retryAt s) now) then waits now (s.expires_at.millis ∷ retryAt s ∷ [])
+    else if not (due (next_retry s) now) then waits now (s.expires_at.millis ∷ next_retry s ∷ [])
     else if rebinds s now then sends now (Renew (rebound w s now)) (s.expires_at.millis ∷ (rebound w s now).rebind_at.millis ∷ [])
     else sends now (Renew (renewed w s now)) (s.expires_at.millis ∷ (renewed w s now).renew_at.millis ∷ [])
 
 unfoldable pub decided : Waits → ClientState → ℕ → Decision
 decided w Init now = discovers w now
-decided w (Discovering s) now = decidedDiscovering w s now
-decided w (Requesting s) now = decidedRequesting w s now
-decided w (Renewing s) now = decidedRenewing w s now
+decided w (Discovering s) now = decided_discovering w s now
+decided w (Requesting s) now = decided_requesting w s now
+decided w (Renewing s) now = decided_renewing w s now
 
 -- The state that follows a message.
 abbrev pub following : Sending → ClientState
@@ -116,11 +116,11 @@ following (Renew s) = Renewing s
 
 -- Waits within the ranges of document 02's request (g), in milliseconds: the base's lie in them.
 pub record InRange (w : Waits) : Type 0 where
-  pub discover-least : 1000 ≤ w.discover_timeout.millis
-  pub discover-most : w.discover_timeout.millis ≤ 3600000
-  pub request-least : 1000 ≤ w.initial_request_timeout.millis
-  pub request-most : w.initial_request_timeout.millis ≤ 60000
-  pub tries-least : 1 ≤ w.request_retries
-  pub tries-most : w.request_retries ≤ 8
-  pub renew-least : 1000 ≤ w.min_renew_timeout.millis
-  pub renew-most : w.min_renew_timeout.millis ≤ 600000
+  pub discover_least : 1000 ≤ w.discover_timeout.millis
+  pub discover_most : w.discover_timeout.millis ≤ 3600000
+  pub request_least : 1000 ≤ w.initial_request_timeout.millis
+  pub request_most : w.initial_request_timeout.millis ≤ 60000
+  pub tries_least : 1 ≤ w.request_retries
+  pub tries_most : w.request_retries ≤ 8
+  pub renew_least : 1000 ≤ w.min_renew_timeout.millis
+  pub renew_most : w.min_renew_timeout.millis ≤ 600000

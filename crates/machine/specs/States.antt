@@ -9,11 +9,11 @@ use Rattle.machine.specs.declared.state.DhcpServerInfo.{DhcpServerInfo}
 use Rattle.machine.specs.declared.times.Times.{Times}
 
 -- Whether a lease is held: in Renewing alone.
-abbrev pub hasLease : ClientState → Bool
-hasLease Init = false
-hasLease (Discovering s) = false
-hasLease (Requesting s) = false
-hasLease (Renewing s) = true
+abbrev pub has_lease : ClientState → Bool
+has_lease Init = false
+has_lease (Discovering s) = false
+has_lease (Requesting s) = false
+has_lease (Renewing s) = true
 
 -- Requesting, due now.
 abbrev pub requesting : DhcpServerInfo → ℕ → Instant → ClientState

@@ -17,12 +17,12 @@ given None = time.None
 given (Some s) = time.Some (duration (seconds s))
 
 -- A lease for which the server names no time.
-abbrev pub defaultTime : ℕ
-defaultTime = seconds 120
+abbrev pub default_time : ℕ
+default_time = seconds 120
 
-abbrev pub orDefault : MaybeDuration → Duration
-orDefault time.None = duration defaultTime
-orDefault (time.Some t) = t
+abbrev pub or_default : MaybeDuration → Duration
+or_default time.None = duration default_time
+or_default (time.Some t) = t
 
 -- No more than a maximum, if there is one.
 abbrev pub at_most : MaybeDuration → ℕ → ℕ
@@ -30,31 +30,31 @@ at_most time.None l = l
 at_most (time.Some maximum) l = min l maximum.millis
 
 -- "L is option 51 or 120 s, then at most the configured maximum."
-unfoldable pub leaseTime : MaybeNumber → MaybeDuration → ℕ
-leaseTime said maximum = at_most maximum (orDefault (given said)).millis
+unfoldable pub lease_time : MaybeNumber → MaybeDuration → ℕ
+lease_time said maximum = at_most maximum (or_default (given said)).millis
 
 -- The row that options 58 and 59, T1 and T2, and L fall under.
-unfoldable pub bothRow : Duration → Duration → ℕ → Row
-bothRow t1 t2 l = if ltb t1.millis t2.millis then (if ltb t2.millis l then Both t1 t2 else Neither) else Neither
+unfoldable pub both_row : Duration → Duration → ℕ → Row
+both_row t1 t2 l = if ltb t1.millis t2.millis then (if ltb t2.millis l then Both t1 t2 else Neither) else Neither
 
 abbrev pub row_of : MaybeDuration → MaybeDuration → ℕ → Row
-row_of (time.Some t1) (time.Some t2) l = bothRow t1 t2 l
+row_of (time.Some t1) (time.Some t2) l = both_row t1 t2 l
 row_of (time.Some t1) time.None l = if ltb t1.millis l then OnlyRenew t1 else Neither
 row_of time.None (time.Some t2) l = if ltb t2.millis l then OnlyRebind t2 else Neither
 row_of time.None time.None l = Neither
 
 -- The times of a row. Division cuts down.
-abbrev pub renewAfter : Row → ℕ → ℕ
-renewAfter (Both t1 t2) l = t1.millis
-renewAfter (OnlyRenew t1) l = t1.millis
-renewAfter (OnlyRebind t2) l = min (l / 2) t2.millis
-renewAfter Neither l = l / 2
+abbrev pub renew_after : Row → ℕ → ℕ
+renew_after (Both t1 t2) l = t1.millis
+renew_after (OnlyRenew t1) l = t1.millis
+renew_after (OnlyRebind t2) l = min (l / 2) t2.millis
+renew_after Neither l = l / 2
 
-abbrev pub rebindAfter : Row → ℕ → ℕ
-rebindAfter (Both t1 t2) l = t2.millis
-rebindAfter (OnlyRenew t1) l = t1.millis + (l - t1.millis) / 4 * 3
-rebindAfter (OnlyRebind t2) l = t2.millis
-rebindAfter Neither l = l / 8 * 7
+abbrev pub rebind_after : Row → ℕ → ℕ
+rebind_after (Both t1 t2) l = t2.millis
+rebind_after (OnlyRenew t1) l = t1.millis + (l - t1.millis) / 4 * 3
+rebind_after (OnlyRebind t2) l = t2.millis
+rebind_after Neither l = l / 8 * 7
 
-unfoldable pub timesOf : Row → ℕ → Times
-timesOf row l = record { renew = duration (renewAfter row l); rebind = duration (rebindAfter row l) }
+unfoldable pub times_of : Row → ℕ → Times
+times_of row l = record { renew = duration (renew_after row l); rebind = duration (rebind_after row l) }

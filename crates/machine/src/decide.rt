@@ -2,7 +2,7 @@
 ghost use Rattle.std.specs.Prelude.{◌≡◌, false, [], ◌∷◌, ◌/◌, ◌<◌, max};
 ghost use Rattle.clock.specs.Durations.{duration};
 ghost use Rattle.clock.specs.Moments.{due, earlier, moment};
-ghost use Rattle.machine.specs.Decisions.{waking, sends, discovers, decidedDiscovering, requestWait, requested, decidedRequesting, retryAt, rebinds, renewWait, renewed, rebindWait, rebound, decidedRenewing, decided, following};
+ghost use Rattle.machine.specs.Decisions.{waking, sends, discovers, decided_discovering, request_wait, requested, decided_requesting, next_retry, rebinds, renew_wait, renewed, rebind_wait, rebound, decided_renewing, decided, following};
 
 use crate::state::{ClientState, DiscoverState, RenewState, RequestState, Tries};
 use crate::times::half;
@@ -97,7 +97,7 @@ fn discover(waits: Waits, now: Instant) -> Decision
 
 impl DiscoverState {
     fn decide(self, waits: Waits, now: Instant) -> Decision
-        ensures { result ≡ decidedDiscovering waits self now.millis }
+        ensures { result ≡ decided_discovering waits self now.millis }
     {
         let retry = Clock::new(now).expired(self.retry_at);
         if retry.expired {
@@ -109,7 +109,7 @@ impl DiscoverState {
 
 impl RequestState {
     fn decide(self, waits: Waits, now: Instant) -> Decision
-        ensures { result ≡ decidedRequesting waits self now.millis }
+        ensures { result ≡ decided_requesting waits self now.millis }
     {
         let tries = self.tries;
         let retry = Clock::new(now).expired(tries.retry_at);
@@ -143,7 +143,7 @@ impl RequestState {
 
 // Exponential backoff: the wait doubles at every second try.
 fn request_wait(waits: Waits, tried: u16) -> Duration
-    ensures { result ≡ duration (requestWait waits tried) }
+    ensures { result ≡ duration (request_wait waits tried) }
 {
     let first = waits.initial_request_timeout;
     let doublings = tried / 2;
@@ -155,7 +155,7 @@ fn request_wait(waits: Waits, tried: u16) -> Duration
 
 impl RenewState {
     fn decide(self, waits: Waits, now: Instant) -> Decision
-        ensures { result ≡ decidedRenewing waits self now.millis }
+        ensures { result ≡ decided_renewing waits self now.millis }
     {
         let expiry = Clock::new(now).expired(self.expires_at);
         if expiry.expired {
@@ -168,7 +168,7 @@ impl RenewState {
     fn decide_unexpired(self, waits: Waits, clock: Clock) -> Decision
         requires millis_value { due self.expires_at.millis clock.now.millis ≡ false }
         requires next_value { clock.next ≡ moment (waking clock.now.millis (self.expires_at.millis ∷ [])) }
-        ensures { result ≡ decidedRenewing waits self clock.now.millis }
+        ensures { result ≡ decided_renewing waits self clock.now.millis }
     {
         let retry = clock.expired(self.retry_at());
         if !retry.expired {
@@ -182,7 +182,7 @@ impl RenewState {
 
     // When the next Request is due.
     fn retry_at(self) -> Instant
-        ensures { result ≡ moment (retryAt self) }
+        ensures { result ≡ moment (next_retry self) }
     {
         let renew_at = self.renew_at;
         let rebind_at = self.rebind_at;
@@ -238,7 +238,7 @@ impl RenewState {
 
     // No longer than until any server is asked.
     fn renew_wait(self, waits: Waits, now: Instant) -> Duration
-        ensures { result ≡ duration (renewWait waits self now.millis) }
+        ensures { result ≡ duration (renew_wait waits self now.millis) }
     {
         let rebind_at = self.rebind_at;
         let rest = rebind_at.duration_since(now);
@@ -247,7 +247,7 @@ impl RenewState {
 
     // It may pass the end of the lease, which is a deadline of its own.
     fn rebind_wait(self, waits: Waits, now: Instant) -> Duration
-        ensures { result ≡ duration (rebindWait waits self now.millis) }
+        ensures { result ≡ duration (rebind_wait waits self now.millis) }
     {
         let expires_at = self.expires_at;
         half_or_least(expires_at.duration_since(now), waits)

@@ -1,6 +1,6 @@
 // The client's states.
 ghost use Rattle.std.specs.Prelude.{◌≡◌};
-ghost use Rattle.machine.specs.States.{hasLease, requesting, renewing};
+ghost use Rattle.machine.specs.States.{has_lease, requesting, renewing};
 
 use crate::times::Times;
 use clock::{Duration, Instant};
@@ -63,7 +63,7 @@ pub enum ClientState {
 impl ClientState {
     // Whether a lease is held.
     pub fn has_lease(self) -> bool
-        ensures { result ≡ hasLease self }
+        ensures { result ≡ has_lease self }
     {
         match self {
             ClientState::Init => false,

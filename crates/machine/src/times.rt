@@ -1,7 +1,7 @@
 // How long a lease is, and when it is renewed and rebound.
 ghost use Rattle.std.specs.Prelude.{◌≡◌, ◌+◌, ◌*◌, ◌-◌, ◌/◌};
 ghost use Rattle.clock.specs.Durations.{duration};
-ghost use Rattle.machine.specs.Times.{given, orDefault, leaseTime, row_of, bothRow, timesOf};
+ghost use Rattle.machine.specs.Times.{given, or_default, lease_time, row_of, both_row, times_of};
 
 use clock::{Duration, MaybeDuration};
 use octets::MaybeNumber;
@@ -41,7 +41,7 @@ pub fn timer(seconds: MaybeNumber) -> MaybeDuration
 
 // L: as the server says, or 120 s, and at most the maximum.
 pub fn lease_duration(seconds: MaybeNumber, maximum: MaybeDuration) -> Duration
-    ensures { result ≡ duration (leaseTime seconds maximum) }
+    ensures { result ≡ duration (lease_time seconds maximum) }
 {
     let said = or_default(timer(seconds));
     match maximum {
@@ -52,7 +52,7 @@ pub fn lease_duration(seconds: MaybeNumber, maximum: MaybeDuration) -> Duration
 
 // A time that was given, or 120 s.
 fn or_default(time: MaybeDuration) -> Duration
-    ensures { result ≡ orDefault time }
+    ensures { result ≡ or_default time }
 {
     match time {
         MaybeDuration::Some(d) => d,
@@ -61,7 +61,7 @@ fn or_default(time: MaybeDuration) -> Duration
 }
 
 fn both_row(t1: Duration, t2: Duration, lease: Duration) -> Row
-    ensures { result ≡ bothRow t1 t2 lease.millis }
+    ensures { result ≡ both_row t1 t2 lease.millis }
 {
     if t1.millis < t2.millis {
         if t2.millis < lease.millis {
@@ -104,7 +104,7 @@ impl Row {
 
     // The times of a row, for a lease of that length.
     pub fn times(self, lease: Duration) -> Times
-        ensures { result ≡ timesOf self lease.millis }
+        ensures { result ≡ times_of self lease.millis }
     {
         match self {
             Row::Both { renew, rebind } => Times { renew, rebind },

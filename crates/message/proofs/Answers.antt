@@ -9,10 +9,10 @@ use lib.Dec.{ltb}
 use borrow.Author.Tests.{ltb-false, not-false, le-leb, lt-leb}
 use Rattle.choice.specs.Choice.{if◌then◌else◌}
 use Rattle.octets.specs.Runs.{over}
-use Rattle.octets.specs.Items.{wholeItems}
+use Rattle.octets.specs.Items.{whole_items}
 use Rattle.message.specs.Messages.{message}
 use Rattle.message.specs.Datagrams.{datagram}
-use Rattle.message.specs.Written.{listFits, measured, written, bufferAfter}
+use Rattle.message.specs.Written.{list_fits, measured, written, buffer_after}
 use Rattle.message.specs.Pieces.{Short}
 use Rattle.message.specs.declared.datagram.Endpoints.{Endpoints}
 use Rattle.message.specs.declared.message.Message.{Message}
@@ -32,7 +32,7 @@ module _ (m : Message) (name list extra : List ℕ) where
   pub short : {n : ℕ} → measured m name list extra ≡ Length n → Short m name list extra × (n ≡ length (message m name list extra))
   unfolding measured
   short {n} e =
-      let p = passed (ltb 63 (length name)) (not (listFits m.asks (length list))) (ltb 255 (length extra)) (not (wholeItems extra)) (length (message m name list extra)) n e in
+      let p = passed (ltb 63 (length name)) (not (list_fits m.asks (length list))) (ltb 255 (length extra)) (not (whole_items extra)) (length (message m name list extra)) n e in
       (record { named = ltb-false _ _ p.0; listed = not-false _ p.1; extras = ltb-false _ _ p.2 }, p.3)
 
   -- the answer
@@ -50,11 +50,11 @@ module _ (m : Message) (name list extra : List ℕ) where
 
   -- the buffer after it
   pub leaves-datagram : {n : ℕ} (ends : Endpoints) (offload : Bool) (buffer : List ℕ) → written m name list extra (length buffer) ≡ Length n
-      → bufferAfter ends offload m name list extra buffer ≡ over (datagram ends offload (message m name list extra)) buffer
-  unfolding bufferAfter
+      → buffer_after ends offload m name list extra buffer ≡ over (datagram ends offload (message m name list extra)) buffer
+  unfolding buffer_after
   leaves-datagram ends offload buffer e = rw e
 
   pub leaves_all : {k : ℕ} (ends : Endpoints) (offload : Bool) (buffer : List ℕ) → written m name list extra (length buffer) ≡ Refused k
-      → bufferAfter ends offload m name list extra buffer ≡ buffer
-  unfolding bufferAfter
+      → buffer_after ends offload m name list extra buffer ≡ buffer
+  unfolding buffer_after
   leaves_all ends offload buffer e = rw e

@@ -7,7 +7,7 @@ use lib.ListN.{length, length-append}
 use native.Mathlib.Omega.{arith}
 use Rattle.choice.specs.Choice.{if◌then◌else◌}
 use Rattle.octets.specs.Words.{bytes16}
-use Rattle.message.specs.Datagrams.{udp, checksumField, datagram}
+use Rattle.message.specs.Datagrams.{udp, checksum_field, datagram}
 use Rattle.message.specs.Pieces.{Wrote, summed}
 use Rattle.message.specs.declared.datagram.Endpoints.{Endpoints}
 use Rattle.message.proofs.Writers.{row, patch, front}
@@ -20,7 +20,7 @@ headed size body e h b = rw e at (row h b)
 -- then the checksum, if it is not the device's
 module _ (ends : Endpoints) (body : List ℕ) {n : ℕ} {buf xs ys : List ℕ} (w : Wrote 0 (udp (0 ∷ 0 ∷ []) body) buf n xs) where
   pub finish : (offload : Bool) → ys ≡ summed ends offload n xs → Wrote 0 (datagram ends offload body) buf n ys
-  unfolding datagram checksumField summed if◌then◌else◌
+  unfolding datagram checksum_field summed if◌then◌else◌
   finish true s = rw s w
   finish false s = patch (0 ∷ 68 ∷ 0 ∷ 67 ∷ bytes16 (8 + length body)) (0 ∷ 0 ∷ []) body _ refl w (rw (front w) at s)
 
@@ -29,10 +29,10 @@ unfolding if◌then◌else◌
 two true v h = refl
 two false v h = h
 
-field-length : (ends : Endpoints) (offload : Bool) (body : List ℕ) → length (checksumField ends offload body) ≡ 2
-unfolding checksumField
-field-length ends offload body = two offload _ refl
+field_length : (ends : Endpoints) (offload : Bool) (body : List ℕ) → length (checksum_field ends offload body) ≡ 2
+unfolding checksum_field
+field_length ends offload body = two offload _ refl
 
 pub datagram-length : (ends : Endpoints) (offload : Bool) (body : List ℕ) → length (datagram ends offload body) ≡ 8 + length body
 unfolding datagram
-datagram-length ends offload body = simp length-append (omega (arith, field-length ends offload body))
+datagram-length ends offload body = simp length-append (omega (arith, field_length ends offload body))

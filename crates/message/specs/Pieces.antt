@@ -3,10 +3,10 @@ use Rattle.std.specs.Prelude.{ℕ, ◌+◌, ◌-◌, ◌%◌, ◌≤◌, Bool, t
 use Rattle.choice.specs.Choice.{if◌then◌else◌}
 use Rattle.octets.specs.Words.{bytes16}
 use Rattle.octets.specs.Runs.{over}
-use Rattle.octets.specs.Codes.{endCode, requestListCode}
-use Rattle.message.specs.Messages.{optionIf}
+use Rattle.octets.specs.Codes.{end_code, request_list_code}
+use Rattle.message.specs.Messages.{option_if}
 use Rattle.message.specs.Datagrams.{checksum}
-use Rattle.message.specs.Written.{listFits}
+use Rattle.message.specs.Written.{list_fits}
 use Rattle.message.specs.declared.datagram.Endpoints.{Endpoints}
 use Rattle.message.specs.declared.message.Message.{Message}
 
@@ -18,7 +18,7 @@ pub record Wrote (at : ℕ) (out xs : List ℕ) (r : ℕ) (ys : List ℕ) : Type
 
 -- The last options with the end mark.
 abbrev pub last : Bool → List ℕ → List ℕ → List ℕ
-last asks list extra = optionIf asks requestListCode list ++ (extra ++ (endCode ∷ []))
+last asks list extra = option_if asks request_list_code list ++ (extra ++ (end_code ∷ []))
 
 -- What a writer that adds the checksum to a datagram of n octets leaves.
 unfoldable pub summed : Endpoints → Bool → ℕ → List ℕ → List ℕ
@@ -28,11 +28,11 @@ summed ends offload n xs =
 
 -- A plain sum of words with its carries added in: the number from 1 to 65,535 that it is congruent to modulo 65,535; 0
 -- where it is 0.
-unfoldable pub carriedIn : ℕ → ℕ
-carriedIn sum = if eqb sum 0 then 0 else (sum - 1) % 65535 + 1
+unfoldable pub carried_in : ℕ → ℕ
+carried_in sum = if eqb sum 0 then 0 else (sum - 1) % 65535 + 1
 
 -- Lists within their limits.
 pub record Short (m : Message) (name list extra : List ℕ) : Type 0 where
   pub named : length name ≤ 63
-  pub listed : listFits m.asks (length list) ≡ true
+  pub listed : list_fits m.asks (length list) ≡ true
   pub extras : length extra ≤ 255

@@ -2,7 +2,7 @@
 use Rattle.std.specs.Prelude.{ℕ, ◌+◌, Bool, true, not, List, length, leb, ltb}
 use Rattle.choice.specs.Choice.{if◌then◌else◌}
 use Rattle.octets.specs.Runs.{over}
-use Rattle.octets.specs.Items.{wholeItems}
+use Rattle.octets.specs.Items.{whole_items}
 use Rattle.message.specs.Messages.{message}
 use Rattle.message.specs.Datagrams.{datagram}
 use Rattle.message.specs.declared.datagram.Endpoints.{Endpoints}
@@ -11,27 +11,27 @@ use Rattle.message.specs.declared.message.Answer.{Answer}
 use Rattle.message.specs.declared.message.Answer.TheVariants.{Length, Refused}
 
 -- Limits of a name, a request list and the extra options, in octets (document 01's numbers 3, 4 and 5).
-abbrev pub nameLimit : ℕ
-nameLimit = 63
+abbrev pub name_limit : ℕ
+name_limit = 63
 
-abbrev pub listLimit : ℕ
-listLimit = 64
+abbrev pub list_limit : ℕ
+list_limit = 64
 
-abbrev pub extraLimit : ℕ
-extraLimit = 255
+abbrev pub extra_limit : ℕ
+extra_limit = 255
 
 -- Whether a request list of n codes is within its limit, if there is one.
-unfoldable pub listFits : Bool → ℕ → Bool
-listFits asks n = if asks then leb n listLimit else true
+unfoldable pub list_fits : Bool → ℕ → Bool
+list_fits asks n = if asks then leb n list_limit else true
 
 -- A message's length, or a refusal: 3 name over 63 octets; 4 request list over 64, where there is one; 5 extra options
 -- over 255 octets or not whole items.
 unfoldable pub measured : Message → List ℕ → List ℕ → List ℕ → Answer
 measured m name list extra =
-    if ltb nameLimit (length name) then Refused 3
-    else if not (listFits m.asks (length list)) then Refused 4
-    else if ltb extraLimit (length extra) then Refused 5
-    else if not (wholeItems extra) then Refused 5
+    if ltb name_limit (length name) then Refused 3
+    else if not (list_fits m.asks (length list)) then Refused 4
+    else if ltb extra_limit (length extra) then Refused 5
+    else if not (whole_items extra) then Refused 5
     else Length (length (message m name list extra))
 
 -- What a writer that is lent so many octets answers: the datagram's length, or a refusal, 8 where it does not fit.
@@ -47,6 +47,6 @@ leaves (Length size) out buffer = over out buffer
 unfoldable pub written : Message → List ℕ → List ℕ → List ℕ → ℕ → Answer
 written m name list extra room = fitted room (measured m name list extra)
 
-unfoldable pub bufferAfter : Endpoints → Bool → Message → List ℕ → List ℕ → List ℕ → List ℕ → List ℕ
-bufferAfter ends offload m name list extra buffer =
+unfoldable pub buffer_after : Endpoints → Bool → Message → List ℕ → List ℕ → List ℕ → List ℕ → List ℕ
+buffer_after ends offload m name list extra buffer =
     leaves (written m name list extra (length buffer)) (datagram ends offload (message m name list extra)) buffer

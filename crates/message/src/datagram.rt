@@ -3,7 +3,7 @@ ghost use Rattle.std.specs.Prelude.{◌≡◌, ◌∷◌, [], ◌++◌, ◌+◌,
 ghost use Rattle.octets.specs.Words.{bytes16};
 ghost use Rattle.message.specs.Messages.{message};
 ghost use Rattle.message.specs.Datagrams.{datagram};
-ghost use Rattle.message.specs.Written.{written, bufferAfter};
+ghost use Rattle.message.specs.Written.{written, buffer_after};
 ghost use Rattle.message.specs.Pieces.{Wrote, Short, summed};
 
 use crate::message::{Answer, Message, message_len, put_message};
@@ -28,7 +28,7 @@ pub fn write_message(
     list: &[u8],
     extra: &[u8],
 ) -> Answer
-    ensures { (result ≡ written m name.now list.now extra.now (length buf.old)) × (buf.new ≡ bufferAfter ends offload m name.now list.now extra.now buf.old) }
+    ensures { (result ≡ written m name.now list.now extra.now (length buf.old)) × (buf.new ≡ buffer_after ends offload m name.now list.now extra.now buf.old) }
 {
     match message_len(m, name, list, extra) {
         Answer::Length(n) => {

@@ -1,6 +1,6 @@
 // The fixed part of a message.
 ghost use Rattle.std.specs.Prelude.{◌≡◌, ◌+◌, ◌≤◌, length};
-ghost use Rattle.message.specs.Messages.{header, headerRest};
+ghost use Rattle.message.specs.Messages.{header, header_rest};
 ghost use Rattle.message.specs.Pieces.{Wrote};
 
 use crate::put::put_bytes;
@@ -31,7 +31,7 @@ pub(crate) fn put_header(
 // The three other addresses, hardware address, server name, file, and the magic cookie.
 fn put_rest(buf: &mut [u8], at: usize, hardware: [u8; 6]) -> usize
     requires { at + 224 ≤ length buf.old }
-    ensures wrote { Wrote at (headerRest hardware) buf.old result buf.new }
+    ensures wrote { Wrote at (header_rest hardware) buf.old result buf.new }
     ensures value { result ≡ at + 224 }
 {
     let addresses = [0u8; 12];

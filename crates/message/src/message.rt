@@ -1,8 +1,8 @@
 // A client's message: its fields, its length, and its octets.
 ghost use Rattle.std.specs.Prelude.{◌≡◌, true, ◌+◌, ◌≤◌, length};
-ghost use Rattle.octets.specs.Codes.{requestListCode};
-ghost use Rattle.message.specs.Messages.{message, optionIf, addressOption, sizeOption, nameOption, given};
-ghost use Rattle.message.specs.Written.{measured, listFits};
+ghost use Rattle.octets.specs.Codes.{request_list_code};
+ghost use Rattle.message.specs.Messages.{message, option_if, address_option, size_option, name_option, given};
+ghost use Rattle.message.specs.Written.{measured, list_fits};
 ghost use Rattle.message.specs.Pieces.{Wrote, Short};
 
 use crate::header::put_header;
@@ -62,7 +62,7 @@ pub fn message_len(m: Message, name: &[u8], list: &[u8], extra: &[u8]) -> Answer
 
 // Whether a request list has at most 64 codes, if there is one.
 fn list_fits(asks: bool, n: usize) -> bool
-    ensures { result ≡ listFits asks n }
+    ensures { result ≡ list_fits asks n }
 {
     if asks {
         return n <= LIST_LIMIT;
@@ -72,8 +72,8 @@ fn list_fits(asks: bool, n: usize) -> bool
 
 // The length of option requestListCode, where there is one.
 fn list_len(asks: bool, list: &[u8]) -> usize
-    requires { listFits asks (length list.now) ≡ true }
-    ensures { result ≡ length (optionIf asks requestListCode list.now) }
+    requires { list_fits asks (length list.now) ≡ true }
+    ensures { result ≡ length (option_if asks request_list_code list.now) }
 {
     if asks {
         return list.len() + 2;
@@ -84,7 +84,7 @@ fn list_len(asks: bool, list: &[u8]) -> usize
 // The length of option hostNameCode, none where the name is empty.
 fn name_len(name: &[u8]) -> usize
     requires { length name.now ≤ 63 }
-    ensures { result ≡ length (nameOption name.now) }
+    ensures { result ≡ length (name_option name.now) }
 {
     if name.len() == 0 {
         return 0;
@@ -94,7 +94,7 @@ fn name_len(name: &[u8]) -> usize
 
 // The length of an option that holds an address, where there is one.
 fn address_len(kind: u8, address: MaybeNumber) -> usize
-    ensures { result ≡ length (addressOption kind address) }
+    ensures { result ≡ length (address_option kind address) }
 {
     match address {
         MaybeNumber::Some(_) => 6,
@@ -104,7 +104,7 @@ fn address_len(kind: u8, address: MaybeNumber) -> usize
 
 // The length of an option that holds 16 bits, where they are given.
 fn size_len(kind: u8, size: MaybeNumber) -> usize
-    ensures { result ≡ length (sizeOption kind size) }
+    ensures { result ≡ length (size_option kind size) }
 {
     match size {
         MaybeNumber::Some(_) => 4,

@@ -1,7 +1,7 @@
 // The options of a message, in three groups.
 ghost use Rattle.std.specs.Prelude.{◌≡◌, true, ◌∷◌, ◌+◌, ◌≤◌, length};
-ghost use Rattle.octets.specs.Codes.{requestedCode, identifierCode, requestListCode, messageSizeCode};
-ghost use Rattle.message.specs.Messages.{optionIf, addressOption, sizeOption, nameOption, who, given};
+ghost use Rattle.octets.specs.Codes.{requested_code, identifier_code, request_list_code, message_size_code};
+ghost use Rattle.message.specs.Messages.{option_if, address_option, size_option, name_option, who, given};
 ghost use Rattle.message.specs.Pieces.{last, Wrote};
 
 use crate::put::{put_address, put_bytes, put_if, put_name, put_option, put_size};
@@ -28,9 +28,9 @@ fn client_id(hardware: [u8; 6]) -> [u8; 7]
 
 // Who sends what: 53, 61, and 12 if there is a name.
 pub(crate) fn put_who(buf: &mut [u8], at: usize, kind: u8, hardware: [u8; 6], name: &[u8]) -> usize
-    requires { (length name.now ≤ 255) × (at + (12 + length (nameOption name.now)) ≤ length buf.old) }
+    requires { (length name.now ≤ 255) × (at + (12 + length (name_option name.now)) ≤ length buf.old) }
     ensures wrote { Wrote at (who kind hardware name.now) buf.old result buf.new }
-    ensures value { result ≡ at + (12 + length (nameOption name.now)) }
+    ensures value { result ≡ at + (12 + length (name_option name.now)) }
 {
     let body = [kind];
     let id = client_id(hardware);
@@ -47,9 +47,9 @@ pub(crate) fn put_given(
     server: MaybeNumber,
     size: MaybeNumber,
 ) -> usize
-    requires { at + (length (addressOption requestedCode requested) + length (addressOption identifierCode server) + length (sizeOption messageSizeCode size)) ≤ length buf.old }
+    requires { at + (length (address_option requested_code requested) + length (address_option identifier_code server) + length (size_option message_size_code size)) ≤ length buf.old }
     ensures wrote { Wrote at (given requested server size) buf.old result buf.new }
-    ensures value { result ≡ at + (length (addressOption requestedCode requested) + length (addressOption identifierCode server) + length (sizeOption messageSizeCode size)) }
+    ensures value { result ≡ at + (length (address_option requested_code requested) + length (address_option identifier_code server) + length (size_option message_size_code size)) }
 {
     let n1 = put_address(buf, at, OPT_REQUESTED_IP, requested);
     let n2 = put_address(buf, n1, OPT_SERVER_IDENTIFIER, server);
@@ -58,9 +58,9 @@ pub(crate) fn put_given(
 
 // What is asked for: 55, where given; then the extra options, and the end mark.
 pub(crate) fn put_last(buf: &mut [u8], at: usize, asks: bool, list: &[u8], extra: &[u8]) -> usize
-    requires { ((asks ≡ true → length list.now ≤ 255)) × (at + (length (optionIf asks requestListCode list.now) + length extra.now + 1) ≤ length buf.old) }
+    requires { ((asks ≡ true → length list.now ≤ 255)) × (at + (length (option_if asks request_list_code list.now) + length extra.now + 1) ≤ length buf.old) }
     ensures wrote { Wrote at (last asks list.now extra.now) buf.old result buf.new }
-    ensures value { result ≡ at + (length (optionIf asks requestListCode list.now) + length extra.now + 1) }
+    ensures value { result ≡ at + (length (option_if asks request_list_code list.now) + length extra.now + 1) }
 {
     let end = [OPT_END];
     let n1 = put_if(buf, at, asks, OPT_PARAMETER_REQUEST_LIST, list);

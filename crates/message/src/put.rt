@@ -2,7 +2,7 @@
 // answers the place after what it wrote.
 ghost use Rattle.std.specs.Prelude.{◌≡◌, true, ◌+◌, ◌≤◌, length};
 ghost use Rattle.octets.specs.Items.{option};
-ghost use Rattle.message.specs.Messages.{optionIf, addressOption, sizeOption, nameOption};
+ghost use Rattle.message.specs.Messages.{option_if, address_option, size_option, name_option};
 ghost use Rattle.message.specs.Pieces.{Wrote};
 
 use octets::MaybeNumber;
@@ -26,8 +26,8 @@ pub(crate) fn put_option(buf: &mut [u8], at: usize, kind: u8, body: &[u8]) -> us
 
 // An option, where it is given.
 pub(crate) fn put_if(buf: &mut [u8], at: usize, given: bool, kind: u8, body: &[u8]) -> usize
-    requires { ((given ≡ true → length body.now ≤ 255)) × (at + length (optionIf given kind body.now) ≤ length buf.old) }
-    ensures { Wrote at (optionIf given kind body.now) buf.old result buf.new }
+    requires { ((given ≡ true → length body.now ≤ 255)) × (at + length (option_if given kind body.now) ≤ length buf.old) }
+    ensures { Wrote at (option_if given kind body.now) buf.old result buf.new }
 {
     if given {
         return put_option(buf, at, kind, body);
@@ -37,8 +37,8 @@ pub(crate) fn put_if(buf: &mut [u8], at: usize, given: bool, kind: u8, body: &[u
 
 // An option that holds an address, where there is one.
 pub(crate) fn put_address(buf: &mut [u8], at: usize, kind: u8, address: MaybeNumber) -> usize
-    requires { at + length (addressOption kind address) ≤ length buf.old }
-    ensures { Wrote at (addressOption kind address) buf.old result buf.new }
+    requires { at + length (address_option kind address) ≤ length buf.old }
+    ensures { Wrote at (address_option kind address) buf.old result buf.new }
 {
     match address {
         MaybeNumber::Some(a) => {
@@ -51,8 +51,8 @@ pub(crate) fn put_address(buf: &mut [u8], at: usize, kind: u8, address: MaybeNum
 
 // An option that holds 16 bits, where they are given.
 pub(crate) fn put_size(buf: &mut [u8], at: usize, kind: u8, size: MaybeNumber) -> usize
-    requires { at + length (sizeOption kind size) ≤ length buf.old }
-    ensures { Wrote at (sizeOption kind size) buf.old result buf.new }
+    requires { at + length (size_option kind size) ≤ length buf.old }
+    ensures { Wrote at (size_option kind size) buf.old result buf.new }
 {
     match size {
         MaybeNumber::Some(n) => {
@@ -65,8 +65,8 @@ pub(crate) fn put_size(buf: &mut [u8], at: usize, kind: u8, size: MaybeNumber) -
 
 // The host name, if there is one.
 pub(crate) fn put_name(buf: &mut [u8], at: usize, name: &[u8]) -> usize
-    requires { (length name.now ≤ 255) × (at + length (nameOption name.now) ≤ length buf.old) }
-    ensures { Wrote at (nameOption name.now) buf.old result buf.new }
+    requires { (length name.now ≤ 255) × (at + length (name_option name.now) ≤ length buf.old) }
+    ensures { Wrote at (name_option name.now) buf.old result buf.new }
 {
     if name.len() == 0 {
         return at;

@@ -1,8 +1,8 @@
 // The Internet checksum.
 ghost use Rattle.std.specs.Prelude.{◌≡◌, ◌+◌, ◌*◌, ◌≤◌, ◌<◌, length};
 ghost use Rattle.octets.specs.Words.{word16};
-ghost use Rattle.message.specs.Datagrams.{onesAdd, onesSum, complement, checksum, pseudoHeader};
-ghost use Rattle.message.specs.Pieces.{carriedIn};
+ghost use Rattle.message.specs.Datagrams.{ones_add, ones_sum, complement, checksum, pseudo_header};
+ghost use Rattle.message.specs.Pieces.{carried_in};
 
 // Two octets as a word.
 fn word(a: u8, b: u8) -> u16
@@ -13,7 +13,7 @@ fn word(a: u8, b: u8) -> u16
 
 // The sum of two words, the carry added in at the low end.
 fn add(a: u16, b: u16) -> u16
-    ensures { result ≡ onesAdd a b }
+    ensures { result ≡ ones_add a b }
 {
     let t = a as u32 + b as u32;
     if t <= 65535 {
@@ -24,7 +24,7 @@ fn add(a: u16, b: u16) -> u16
 
 // The one's complement sum of start and the words of s.
 pub fn ones_sum(start: u16, s: &[u8]) -> u16
-    ensures { result ≡ onesSum start s.now }
+    ensures { result ≡ ones_sum start s.now }
 {
     if s.len() <= 65535 {
         return deferred(start, s);
@@ -34,7 +34,7 @@ pub fn ones_sum(start: u16, s: &[u8]) -> u16
 
 // The same with each carry added in as it comes, which no length makes too much.
 fn carried(start: u16, s: &[u8]) -> u16
-    ensures { result ≡ onesSum start s.now }
+    ensures { result ≡ ones_sum start s.now }
 {
     let mut sum = start;
     let mut t = s;
@@ -52,7 +52,7 @@ fn carried(start: u16, s: &[u8]) -> u16
 // a word.
 fn deferred(start: u16, s: &[u8]) -> u16
     requires { length s.now ≤ 65535 }
-    ensures { result ≡ onesSum start s.now }
+    ensures { result ≡ ones_sum start s.now }
 {
     let mut sum: u32 = 0;
     let mut t = s;
@@ -67,7 +67,7 @@ fn deferred(start: u16, s: &[u8]) -> u16
 fn with_word(start: u16, sum: u32, t: &[u8]) -> u16
     requires t_bound { sum + 65535 * length t.now ≤ 4294901760 }
     requires t_len_bound { length t.now < 4 }
-    ensures { result ≡ onesSum (carriedIn (start + 256 * sum)) t.now }
+    ensures { result ≡ ones_sum (carried_in (start + 256 * sum)) t.now }
 {
     if 2 <= t.len() {
         return with_octet(start, sum + octets::word::join2(t[1], t[0]), &t[2..]);
@@ -79,7 +79,7 @@ fn with_word(start: u16, sum: u32, t: &[u8]) -> u16
 fn with_octet(start: u16, sum: u32, t: &[u8]) -> u16
     requires t_bound { sum + 65535 * length t.now ≤ 4294901760 }
     requires t_len_bound { length t.now < 2 }
-    ensures { result ≡ onesSum (carriedIn (start + 256 * sum)) t.now }
+    ensures { result ≡ ones_sum (carried_in (start + 256 * sum)) t.now }
 {
     if t.len() == 1 {
         return swapped(start, sum + octets::word::join2(0, t[0]));
@@ -89,7 +89,7 @@ fn with_octet(start: u16, sum: u32, t: &[u8]) -> u16
 
 // Start and a plain sum of words with the low octet first, whose octets are swapped back once its carries are in.
 fn swapped(start: u16, sum: u32) -> u16
-    ensures { result ≡ carriedIn (start + 256 * sum) }
+    ensures { result ≡ carried_in (start + 256 * sum) }
 {
     let low = folded(sum) as u32;
     folded(start as u32 + low % 256 * 256 + low / 256)
@@ -97,7 +97,7 @@ fn swapped(start: u16, sum: u32) -> u16
 
 // A plain sum of words with its carries added in at the low end, twice, since the first time can carry again.
 fn folded(sum: u32) -> u16
-    ensures { result ≡ carriedIn sum }
+    ensures { result ≡ carried_in sum }
 {
     let once = sum % 65536 + sum / 65536;
     (once % 65536 + once / 65536) as u16
@@ -105,7 +105,7 @@ fn folded(sum: u32) -> u16
 
 // The pseudo header of a datagram of n octets.
 fn pseudo_header(source: u32, destination: u32, n: usize) -> [u8; 12]
-    ensures { result ≡ pseudoHeader source destination n }
+    ensures { result ≡ pseudo_header source destination n }
 {
     [
         (source / 16777216 % 256) as u8,

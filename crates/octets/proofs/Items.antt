@@ -7,66 +7,66 @@ use native.Mathlib.Omega.{arith}
 use lib.ListN.{length, drop, get_or, drop_of_length-le}
 use borrow.Author.Tests.{le-leb, lt-leb}
 use Rattle.choice.specs.Choice.{if◌then◌else◌}
-use Rattle.octets.specs.Items.{option, optionBytes, wholeFrom, wholeItems}
+use Rattle.octets.specs.Items.{option, option_bytes, whole_from, whole_items}
 
 -- data of an item begun before is passed over, if it is all there
-pub whole-skip : (n : ℕ) (xs : List ℕ) → n ≤ length xs → wholeFrom n xs ≡ wholeItems (drop n xs)
-unfolding wholeFrom
-whole-skip zero xs h = refl
-whole-skip (suc n) [] h = absurd (omega arith)
-whole-skip (suc n) (x ∷ xs) h = whole-skip n xs (omega arith)
+pub whole_skip : (n : ℕ) (xs : List ℕ) → n ≤ length xs → whole_from n xs ≡ whole_items (drop n xs)
+unfolding whole_from
+whole_skip zero xs h = refl
+whole_skip (suc n) [] h = absurd (omega arith)
+whole_skip (suc n) (x ∷ xs) h = whole_skip n xs (omega arith)
 
-whole-cut : (n : ℕ) (xs : List ℕ) → length xs < n → wholeFrom n xs ≡ false
-unfolding wholeFrom
-whole-cut zero xs h = absurd (omega arith)
-whole-cut (suc n) [] h = refl
-whole-cut (suc n) (x ∷ xs) h = whole-cut n xs (omega arith)
+whole_cut : (n : ℕ) (xs : List ℕ) → length xs < n → whole_from n xs ≡ false
+unfolding whole_from
+whole_cut zero xs h = absurd (omega arith)
+whole_cut (suc n) [] h = refl
+whole_cut (suc n) (x ∷ xs) h = whole_cut n xs (omega arith)
 
-pub items-end : (t : List ℕ) → length t ≤ 0 → wholeItems t ≡ true
-unfolding wholeFrom
-items-end [] h = refl
-items-end (x ∷ t) h = absurd (omega arith)
+pub items_end : (t : List ℕ) → length t ≤ 0 → whole_items t ≡ true
+unfolding whole_from
+items_end [] h = refl
+items_end (x ∷ t) h = absurd (omega arith)
 
-pub items-one : (t : List ℕ) → length t ≡ 1 → wholeItems t ≡ false
-unfolding wholeFrom
-items-one [] h = absurd (omega arith)
-items-one (x ∷ []) h = refl
-items-one (x ∷ y ∷ t) h = absurd (omega arith)
+pub items_one : (t : List ℕ) → length t ≡ 1 → whole_items t ≡ false
+unfolding whole_from
+items_one [] h = absurd (omega arith)
+items_one (x ∷ []) h = refl
+items_one (x ∷ y ∷ t) h = absurd (omega arith)
 
-pub items-cut : (t : List ℕ) → 2 ≤ length t → length t - 2 < get_or t 1 0 → wholeItems t ≡ false
-unfolding wholeFrom
-items-cut [] g h = absurd (omega arith)
-items-cut (x ∷ []) g h = absurd (omega arith)
-items-cut (x ∷ n ∷ t) g h = whole-cut n t (omega arith)
+pub items_cut : (t : List ℕ) → 2 ≤ length t → length t - 2 < get_or t 1 0 → whole_items t ≡ false
+unfolding whole_from
+items_cut [] g h = absurd (omega arith)
+items_cut (x ∷ []) g h = absurd (omega arith)
+items_cut (x ∷ n ∷ t) g h = whole_cut n t (omega arith)
 
-pub items_more : (t : List ℕ) → 2 ≤ length t → get_or t 1 0 ≤ length t - 2 → wholeItems t ≡ wholeItems (drop (get_or t 1 0 + 2) t)
-unfolding wholeFrom
+pub items_more : (t : List ℕ) → 2 ≤ length t → get_or t 1 0 ≤ length t - 2 → whole_items t ≡ whole_items (drop (get_or t 1 0 + 2) t)
+unfolding whole_from
 items_more [] g h = absurd (omega arith)
 items_more (x ∷ []) g h = absurd (omega arith)
-items_more (x ∷ n ∷ t) g h = whole-skip n t (omega arith) ∙ let e : n + 2 ≡ suc (suc n) = omega arith in rw e
+items_more (x ∷ n ∷ t) g h = whole_skip n t (omega arith) ∙ let e : n + 2 ≡ suc (suc n) = omega arith in rw e
 
 -- an option as a writer has it, by the length of its data
-pub bytes_of : (kind : ℕ) (body : List ℕ) → length body ≤ 255 → optionBytes kind body ≡ option kind body
-unfolding optionBytes if◌then◌else◌
+pub bytes_of : (kind : ℕ) (body : List ℕ) → length body ≤ 255 → option_bytes kind body ≡ option kind body
+unfolding option_bytes if◌then◌else◌
 bytes_of kind body h = simp (le-leb _ _ h)
 
-pub bytes-long : (kind : ℕ) (body : List ℕ) → 255 < length body → optionBytes kind body ≡ []
-unfolding optionBytes if◌then◌else◌
-bytes-long kind body h = simp (lt-leb _ _ h)
+pub bytes_long : (kind : ℕ) (body : List ℕ) → 255 < length body → option_bytes kind body ≡ []
+unfolding option_bytes if◌then◌else◌
+bytes_long kind body h = simp (lt-leb _ _ h)
 
 -- whole items before others
-items-then : (n : ℕ) (l m : List ℕ) → wholeFrom n l ≡ true → wholeFrom n (l ++ m) ≡ wholeItems m
-unfolding wholeFrom
-items-then zero [] m e = refl
-items-then zero (k ∷ []) m e = cc
-items-then zero (k ∷ size ∷ l) m e = items-then size l m e
-items-then (suc n) [] m e = cc
-items-then (suc n) (x ∷ l) m e = items-then n l m e
+items_then : (n : ℕ) (l m : List ℕ) → whole_from n l ≡ true → whole_from n (l ++ m) ≡ whole_items m
+unfolding whole_from
+items_then zero [] m e = refl
+items_then zero (k ∷ []) m e = cc
+items_then zero (k ∷ size ∷ l) m e = items_then size l m e
+items_then (suc n) [] m e = cc
+items_then (suc n) (x ∷ l) m e = items_then n l m e
 
-pub items-append : (l m : List ℕ) → wholeItems l ≡ true → wholeItems (l ++ m) ≡ wholeItems m
-items-append l m e = items-then 0 l m e
+pub items_append : (l m : List ℕ) → whole_items l ≡ true → whole_items (l ++ m) ≡ whole_items m
+items_append l m e = items_then 0 l m e
 
 -- an option is one item
-pub items-option : (kind : ℕ) (body : List ℕ) → wholeItems (option kind body) ≡ true
-unfolding wholeFrom
-items-option kind body = whole-skip (length body) body (omega arith) ∙ rw (drop_of_length-le body {i = length body} (omega arith))
+pub items_option : (kind : ℕ) (body : List ℕ) → whole_items (option kind body) ≡ true
+unfolding whole_from
+items_option kind body = whole_skip (length body) body (omega arith) ∙ rw (drop_of_length-le body {i = length body} (omega arith))

@@ -18,10 +18,10 @@ abbrev pub mask_of : ℕ → ℕ
 mask_of n = 2 ^ 32 - 2 ^ (32 - n)
 
 -- The length, up to n, whose mask is m.
-unfoldable pub lengthUpTo : ℕ → ℕ → MaybeNumber
-lengthUpTo zero m = if eqb m (mask_of 0) then Some 0 else None
-lengthUpTo (suc n) m = if eqb m (mask_of (suc n)) then Some (suc n) else lengthUpTo n m
+unfoldable pub length_up_to : ℕ → ℕ → MaybeNumber
+length_up_to zero m = if eqb m (mask_of 0) then Some 0 else None
+length_up_to (suc n) m = if eqb m (mask_of (suc n)) then Some (suc n) else length_up_to n m
 
 -- The prefix length of a mask: none where it is no mask.
-abbrev pub prefixLen : ℕ → MaybeNumber
-prefixLen m = lengthUpTo 32 m
+abbrev pub prefix_len : ℕ → MaybeNumber
+prefix_len m = length_up_to 32 m

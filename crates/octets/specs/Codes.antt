@@ -2,52 +2,52 @@
 use Rattle.std.specs.Prelude.{ℕ}
 
 -- One octet of padding, and the end mark (sections 3.1 and 3.2).
-abbrev pub padCode : ℕ
-padCode = 0
+abbrev pub pad_code : ℕ
+pad_code = 0
 
-abbrev pub endCode : ℕ
-endCode = 255
+abbrev pub end_code : ℕ
+end_code = 255
 
 -- Sections 3.3, 3.5, 3.8 and 3.14.
-abbrev pub maskCode : ℕ
-maskCode = 1
+abbrev pub mask_code : ℕ
+mask_code = 1
 
-abbrev pub routerCode : ℕ
-routerCode = 3
+abbrev pub router_code : ℕ
+router_code = 3
 
-abbrev pub dnsCode : ℕ
-dnsCode = 6
+abbrev pub dns_code : ℕ
+dns_code = 6
 
-abbrev pub hostNameCode : ℕ
-hostNameCode = 12
+abbrev pub host_name_code : ℕ
+host_name_code = 12
 
 -- Sections 9.1, 9.2, 9.6, 9.7, 9.8, 9.10, 9.11 (T1), 9.12 (T2) and 9.14.
-abbrev pub requestedCode : ℕ
-requestedCode = 50
+abbrev pub requested_code : ℕ
+requested_code = 50
 
-abbrev pub leaseTimeCode : ℕ
-leaseTimeCode = 51
+abbrev pub lease_time_code : ℕ
+lease_time_code = 51
 
-abbrev pub messageTypeCode : ℕ
-messageTypeCode = 53
+abbrev pub message_type_code : ℕ
+message_type_code = 53
 
-abbrev pub identifierCode : ℕ
-identifierCode = 54
+abbrev pub identifier_code : ℕ
+identifier_code = 54
 
-abbrev pub requestListCode : ℕ
-requestListCode = 55
+abbrev pub request_list_code : ℕ
+request_list_code = 55
 
-abbrev pub messageSizeCode : ℕ
-messageSizeCode = 57
+abbrev pub message_size_code : ℕ
+message_size_code = 57
 
-abbrev pub renewalCode : ℕ
-renewalCode = 58
+abbrev pub renewal_code : ℕ
+renewal_code = 58
 
-abbrev pub rebindingCode : ℕ
-rebindingCode = 59
+abbrev pub rebinding_code : ℕ
+rebinding_code = 59
 
-abbrev pub clientIdCode : ℕ
-clientIdCode = 61
+abbrev pub client_id_code : ℕ
+client_id_code = 61
 
 -- Message types (section 9.6).
 abbrev pub discover : ℕ

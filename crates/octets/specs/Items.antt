@@ -12,17 +12,17 @@ abbrev pub option : ℕ → List ℕ → List ℕ
 option kind body = kind ∷ length body ∷ body
 
 -- An option as a writer has it: none where its data is longer than an octet can say.
-unfoldable pub optionBytes : ℕ → List ℕ → List ℕ
-optionBytes kind body = if leb (length body) 255 then option kind body else []
+unfoldable pub option_bytes : ℕ → List ℕ → List ℕ
+option_bytes kind body = if leb (length body) 255 then option kind body else []
 
 -- Whether a list, whose first `rest` octets are data of an item begun before, ends where an item ends.
-unfoldable pub wholeFrom : ℕ → List ℕ → Bool
-wholeFrom zero [] = true
-wholeFrom zero (kind ∷ []) = false
-wholeFrom zero (kind ∷ size ∷ xs) = wholeFrom size xs
-wholeFrom (suc rest) [] = false
-wholeFrom (suc rest) (x ∷ xs) = wholeFrom rest xs
+unfoldable pub whole_from : ℕ → List ℕ → Bool
+whole_from zero [] = true
+whole_from zero (kind ∷ []) = false
+whole_from zero (kind ∷ size ∷ xs) = whole_from size xs
+whole_from (suc rest) [] = false
+whole_from (suc rest) (x ∷ xs) = whole_from rest xs
 
 -- Whether a list is whole items.
-abbrev pub wholeItems : List ℕ → Bool
-wholeItems = wholeFrom 0
+abbrev pub whole_items : List ℕ → Bool
+whole_items = whole_from 0

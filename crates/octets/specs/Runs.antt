@@ -3,11 +3,11 @@ use Rattle.std.specs.Prelude.{ℕ, Bool, true, false, List, [], ◌∷◌, ◌++
 use Rattle.choice.specs.Choice.{if◌then◌else◌}
 
 -- Whether two lists are equal.
-unfoldable pub sameBytes : List ℕ → List ℕ → Bool
-sameBytes [] [] = true
-sameBytes [] (y ∷ ys) = false
-sameBytes (x ∷ xs) [] = false
-sameBytes (x ∷ xs) (y ∷ ys) = if eqb x y then sameBytes xs ys else false
+unfoldable pub same_bytes : List ℕ → List ℕ → Bool
+same_bytes [] [] = true
+same_bytes [] (y ∷ ys) = false
+same_bytes (x ∷ xs) [] = false
+same_bytes (x ∷ xs) (y ∷ ys) = if eqb x y then same_bytes xs ys else false
 
 -- The buffer with `out` over its start; what follows keeps its value.
 unfoldable pub over : List ℕ → List ℕ → List ℕ
@@ -18,5 +18,5 @@ unfoldable pub placed : List ℕ → List ℕ → List ℕ
 placed out buffer = if leb (length out) (length buffer) then over out buffer else buffer
 
 -- How many octets that writes.
-unfoldable pub placedLength : List ℕ → List ℕ → ℕ
-placedLength out buffer = if leb (length out) (length buffer) then length out else 0
+unfoldable pub placed_length : List ℕ → List ℕ → ℕ
+placed_length out buffer = if leb (length out) (length buffer) then length out else 0

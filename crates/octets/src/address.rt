@@ -1,6 +1,6 @@
 // IPv4 addresses, as numbers of 32 bits.
 ghost use Rattle.std.specs.Prelude.{◌≡◌};
-ghost use Rattle.octets.specs.Addresses.{unicast, prefixLen};
+ghost use Rattle.octets.specs.Addresses.{unicast, prefix_len};
 
 use crate::number::MaybeNumber;
 
@@ -27,7 +27,7 @@ pub fn x_is_unicast(address: u32) -> bool
 
 // The number of ones that a mask begins with, none where a one follows a zero. p is 2 to the 32 - n.
 pub fn prefix_len(mask: u32) -> MaybeNumber
-    ensures { result ≡ prefixLen mask }
+    ensures { result ≡ prefix_len mask }
 {
     let m = mask as u64;
     let mut n: u32 = 32;

@@ -1,11 +1,11 @@
 // Runs of octets: whether two are equal, and writing one over the start of a lent buffer, whole or not at all.
 ghost use Rattle.std.specs.Prelude.{◌≡◌, ◌+◌, ◌≤◌, ◌++◌, length, take, drop};
-ghost use Rattle.octets.specs.Runs.{sameBytes, over, placed, placedLength};
-ghost use Rattle.octets.specs.Items.{option, optionBytes};
+ghost use Rattle.octets.specs.Runs.{same_bytes, over, placed, placed_length};
+ghost use Rattle.octets.specs.Items.{option, option_bytes};
 
 // Whether a and b hold the same octets.
 pub fn same(a: &[u8], b: &[u8]) -> bool
-    ensures { result ≡ sameBytes a.now b.now }
+    ensures { result ≡ same_bytes a.now b.now }
 {
     let mut x = a;
     let mut y = b;
@@ -46,7 +46,7 @@ fn copy_in(buf: &mut [u8], body: &[u8])
 
 // Writes body over the start of buf, if it fits, and answers how many octets were written.
 pub fn put_bytes(buf: &mut [u8], body: &[u8]) -> usize
-    ensures { (result ≡ placedLength body.now buf.old) × (buf.new ≡ placed body.now buf.old) }
+    ensures { (result ≡ placed_length body.now buf.old) × (buf.new ≡ placed body.now buf.old) }
 {
     let n = body.len();
     if buf.len() < n {
@@ -69,7 +69,7 @@ fn option_in(buf: &mut [u8], kind: u8, body: &[u8])
 // Writes an option over the start of buf, if its data has at most 255 octets and it fits, and answers how many octets
 // were written.
 pub fn put_option(buf: &mut [u8], kind: u8, body: &[u8]) -> usize
-    ensures { (result ≡ placedLength (optionBytes kind body.now) buf.old) × (buf.new ≡ placed (optionBytes kind body.now) buf.old) }
+    ensures { (result ≡ placed_length (option_bytes kind body.now) buf.old) × (buf.new ≡ placed (option_bytes kind body.now) buf.old) }
 {
     let n = body.len();
     if 255 < n {
@@ -84,7 +84,7 @@ pub fn put_option(buf: &mut [u8], kind: u8, body: &[u8]) -> usize
 
 // Writes body over what is left of buf from `at` on, if it fits there, and answers how many octets were written.
 pub fn put_bytes_at(buf: &mut [u8], at: usize, body: &[u8]) -> usize
-    ensures { (result ≡ placedLength body.now (drop at buf.old)) × (buf.new ≡ take at buf.old ++ placed body.now (drop at buf.old)) }
+    ensures { (result ≡ placed_length body.now (drop at buf.old)) × (buf.new ≡ take at buf.old ++ placed body.now (drop at buf.old)) }
 {
     if buf.len() < at {
         return 0;
@@ -95,7 +95,7 @@ pub fn put_bytes_at(buf: &mut [u8], at: usize, body: &[u8]) -> usize
 // Writes an option over what is left of buf from `at` on, if its data has at most 255 octets and it fits there, and
 // answers how many octets were written.
 pub fn put_option_at(buf: &mut [u8], at: usize, kind: u8, body: &[u8]) -> usize
-    ensures { (result ≡ placedLength (optionBytes kind body.now) (drop at buf.old)) × (buf.new ≡ take at buf.old ++ placed (optionBytes kind body.now) (drop at buf.old)) }
+    ensures { (result ≡ placed_length (option_bytes kind body.now) (drop at buf.old)) × (buf.new ≡ take at buf.old ++ placed (option_bytes kind body.now) (drop at buf.old)) }
 {
     if buf.len() < at {
         return 0;

@@ -1,7 +1,7 @@
 // Words of 2 and 4 octets, the high one first.
 ghost use Rattle.std.specs.Prelude.{◌≡◌, ◌++◌, take, drop};
-ghost use Rattle.octets.specs.Words.{word16, word32, bytes16, bytes32, word16At, word32At};
-ghost use Rattle.octets.specs.Runs.{placed, placedLength};
+ghost use Rattle.octets.specs.Words.{word16, word32, bytes16, bytes32, word16_at, word32_at};
+ghost use Rattle.octets.specs.Runs.{placed, placed_length};
 
 use crate::number::MaybeNumber;
 use crate::span::put_bytes_at;
@@ -41,7 +41,7 @@ pub fn split4(v: u32) -> [u8; 4]
 
 // The word of two octets at `at`, none where s ends before it does.
 pub fn read_u16(s: &[u8], at: usize) -> MaybeNumber
-    ensures { result ≡ word16At s.now at }
+    ensures { result ≡ word16_at s.now at }
 {
     if s.len() < 2 {
         return MaybeNumber::None;
@@ -54,7 +54,7 @@ pub fn read_u16(s: &[u8], at: usize) -> MaybeNumber
 
 // The word of four octets at `at`, none where s ends before it does.
 pub fn read_u32(s: &[u8], at: usize) -> MaybeNumber
-    ensures { result ≡ word32At s.now at }
+    ensures { result ≡ word32_at s.now at }
 {
     if s.len() < 4 {
         return MaybeNumber::None;
@@ -68,7 +68,7 @@ pub fn read_u32(s: &[u8], at: usize) -> MaybeNumber
 // Writes the low 16 bits of a number as two octets at `at` of buf, if they fit there, and answers how many octets were
 // written.
 pub fn write_u16(buf: &mut [u8], at: usize, v: u32) -> usize
-    ensures { (result ≡ placedLength (bytes16 v) (drop at buf.old)) × (buf.new ≡ take at buf.old ++ placed (bytes16 v) (drop at buf.old)) }
+    ensures { (result ≡ placed_length (bytes16 v) (drop at buf.old)) × (buf.new ≡ take at buf.old ++ placed (bytes16 v) (drop at buf.old)) }
 {
     let octets = split2(v);
     put_bytes_at(buf, at, &octets)
@@ -76,7 +76,7 @@ pub fn write_u16(buf: &mut [u8], at: usize, v: u32) -> usize
 
 // Writes a number as four octets at `at` of buf, if they fit there, and answers how many octets were written.
 pub fn write_u32(buf: &mut [u8], at: usize, v: u32) -> usize
-    ensures { (result ≡ placedLength (bytes32 v) (drop at buf.old)) × (buf.new ≡ take at buf.old ++ placed (bytes32 v) (drop at buf.old)) }
+    ensures { (result ≡ placed_length (bytes32 v) (drop at buf.old)) × (buf.new ≡ take at buf.old ++ placed (bytes32 v) (drop at buf.old)) }
 {
     let octets = split4(v);
     put_bytes_at(buf, at, &octets)

@@ -10,9 +10,9 @@ use lib.ListN.{length, replicate, length-replicate}
 use Rattle.clock.specs.Clocks.{day}
 use Rattle.settings.specs.declared.settings.Settings.{Settings}
 use Rattle.run.specs.Calls.{Post, Calls}
-use Rattle.run.specs.Demand3.{Entry, IfPolls, adds, cameTo, after, total, OnlyPolls, Quiet, Wakes}
+use Rattle.run.specs.Demand3.{Entry, IfPolls, adds, came_to, after, total, OnlyPolls, Quiet, Wakes}
 use Rattle.run.proofs.Answers.{length_of}
-use Rattle.run.proofs.Sample.{pollInto}
+use Rattle.run.proofs.Sample.{poll_into}
 
 -- p is what the poll left.
 module _ (k : Calls) (s : Settings) (p : Post) where
@@ -20,34 +20,34 @@ module _ (k : Calls) (s : Settings) (p : Post) where
   pub record WillDo (d : ℕ) : Type 0 where
     pub within : d ≤ day
     pub before : (es : List Entry) → OnlyPolls k s p es → (e : Entry) → total k s p es + adds k s (after k s p es) e < d
-        → IfPolls (Quiet (after k s p es)) (cameTo k s (after k s p es) e)
+        → IfPolls (Quiet (after k s p es)) (came_to k s (after k s p es) e)
 
   pub record Latest (d : ℕ) : Type 0 where
-    pub will-do : WillDo d
+    pub will_do : WillDo d
     pub latest : (other : ℕ) → WillDo other → other ≤ d
 
-  zeros-length : (n : ℕ) → length (replicate {A = ℕ} n 0) ≡ n
-  zeros-length n = length-replicate n 0
+  zeros_length : (n : ℕ) → length (replicate {A = ℕ} n 0) ≡ n
+  zeros_length n = length-replicate n 0
 
   -- were a later one to do, the poll at d would build nothing; but it builds a message
-  none-later : (d other : ℕ) → Wakes k s p d → WillDo other → d < other → ⊥
-  none-later d other wakes will-do later =
-      let owed = wakes.at (λ same. omega (arith, will-do.within)) in
-      let there = pollInto (0 ∷ replicate owed.n 0) d in
-      let built = owed.builds [] tt tt there (omega arith) (omega (arith, zeros-length owed.n)) in
-      let quiet = will-do.before [] tt there (omega arith) in
+  none_later : (d other : ℕ) → Wakes k s p d → WillDo other → d < other → ⊥
+  none_later d other wakes will_do later =
+      let owed = wakes.at (λ same. omega (arith, will_do.within)) in
+      let there = poll_into (0 ∷ replicate owed.n 0) d in
+      let built = owed.builds [] tt tt there (omega arith) (omega (arith, zeros_length owed.n)) in
+      let quiet = will_do.before [] tt there (omega arith) in
       let none : 0 ≡ owed.n = sym quiet.length ∙ sym (ap length_of quiet.answered) ∙ ap length_of built.answered ∙ built.length in
       omega (arith, owed.some)
 
-  pub wakes-latest : (d : ℕ) → Wakes k s p d → Latest d
-  wakes-latest d wakes = record { will-do = record { within = wakes.within; before = wakes.before }; latest = λ other will-do. by other will-do (dec_le other d) }
+  pub wakes_latest : (d : ℕ) → Wakes k s p d → Latest d
+  wakes_latest d wakes = record { will_do = record { within = wakes.within; before = wakes.before }; latest = λ other will_do. by other will_do (dec_le other d) }
     where
       by : (other : ℕ) → WillDo other → Dec (other ≤ d) → other ≤ d
-      by other will-do (yes h) = h
-      by other will-do (no h) = absurd (none-later d other wakes will-do (lt_of_not-le h))
+      by other will_do (yes h) = h
+      by other will_do (no h) = absurd (none_later d other wakes will_do (lt_of_not-le h))
 
-  pub wakes-unique : (d e : ℕ) → Wakes k s p d → Wakes k s p e → d ≡ e
-  wakes-unique d e v w =
-      let l = (wakes-latest d v).latest e (wakes-latest e w).will-do in
-      let m = (wakes-latest e w).latest d (wakes-latest d v).will-do in
+  pub wakes_unique : (d e : ℕ) → Wakes k s p d → Wakes k s p e → d ≡ e
+  wakes_unique d e v w =
+      let l = (wakes_latest d v).latest e (wakes_latest e w).will_do in
+      let m = (wakes_latest e w).latest d (wakes_latest d v).will_do in
       omega arith

@@ -8,8 +8,8 @@ use Rattle.clock.specs.declared.waits.Waits.{Waits}
 use Rattle.octets.specs.declared.number.MaybeNumber.{MaybeNumber}
 use Rattle.octets.specs.declared.number.MaybeNumber.TheVariants.{None, Some}
 use Rattle.settings.specs.declared.settings.Settings.{Settings}
-use Rattle.client.specs.Clients.{wholeAll}
-use Rattle.run.specs.Calls.{Post, Deed, callsWith}
+use Rattle.client.specs.Clients.{whole_all}
+use Rattle.run.specs.Calls.{Post, Deed, calls_with}
 use Rattle.run.specs.Demand3.{Done, Does, leaves, done, History, Lost, Since, Justly}
 use Rattle.run.proofs.Invariant.{Inv, Step}
 
@@ -21,21 +21,21 @@ abbrev pub number_in : MaybeNumber → ℕ
 number_in None = 0
 number_in (Some n) = n
 
-pub never-refused : {A : Type 0} (n : ℕ) → None ≡ Some n → A
-never-refused n e = absurd (false≢true (ap is_some e))
+pub never_refused : {A : Type 0} (n : ℕ) → None ≡ Some n → A
+never_refused n e = absurd (false≢true (ap is_some e))
 
 -- The post is whole, and its settings are those of creation.
 pub record Sound (s : Settings) (p : Post) : Type 0 where
-  pub whole : wholeAll p.client p.tables ≡ true
-  pub settings-are : p.client.settings ≡ s
+  pub whole : whole_all p.client p.tables ≡ true
+  pub settings_are : p.client.settings ≡ s
 
 -- What is owed of a deed: it keeps the invariant and the post sound, and is refused for its own reasons alone.
 module _ (w : Waits) (s : Settings) where
   abbrev pub doing : Post → Instant → Deed → Done
-  doing p = done (callsWith w) s p.client p.tables p.rand
+  doing p = done (calls_with w) s p.client p.tables p.rand
 
   pub record Lawful (d : Deed) : Type 0 where
     pub steps : (p : Post) (gp : Since) (t : ℕ) (h : History) (lost : Lost) (i : Inv s gp t p.client p.tables h lost)
         → Step s gp t p.client p.tables p.rand h lost i (doing p (moment (wrap t)) d).tells (doing p (moment (wrap t)) d).client (doing p (moment (wrap t)) d).tables
     pub sound : (p : Post) (now : Instant) → Sound s p → Sound s (leaves p now (Does d (doing p now d)))
-    pub just : (p : Post) (now : Instant) → Sound s p → (number : ℕ) → (doing p now d).refused ≡ Some number → Justly (callsWith w) s p now d number
+    pub just : (p : Post) (now : Instant) → Sound s p → (number : ℕ) → (doing p now d).refused ≡ Some number → Justly (calls_with w) s p now d number

@@ -11,58 +11,58 @@ use Rattle.clock.specs.declared.rand.Rand.{Rand}
 use Rattle.tables.specs.declared.tables.Tables.{Tables}
 use Rattle.settings.specs.declared.settings.Settings.{Settings}
 use Rattle.run.specs.Calls.{Post, Calls, Call, LookUp, Query}
-use Rattle.run.specs.Demand3.{CameTo, Polls, Does, Answers, leaves, tells, comes, stepped, History, NoAck, Held, older, notedAll, lostAll, Run, start, next}
+use Rattle.run.specs.Demand3.{CameTo, Polls, Does, Answers, leaves, tells, comes, stepped, History, NoAck, Held, older, noted_all, lost_all, Run, start, next}
 
 -- THE START: a client that creation returned, with tables, generator and a moment of the clock.
-pub created-start : (k : Calls) (s : Settings) (ignoring : Bool) (t : Tables) (rand : Rand) (now : Instant) → now.millis < 2 ^ 32
+pub created_start : (k : Calls) (s : Settings) (ignoring : Bool) (t : Tables) (rand : Rand) (now : Instant) → now.millis < 2 ^ 32
     → record { client = (k.create s ignoring).client; tables = t; rand = rand; now = now } ≡ (start (k.create s ignoring).client t rand now.millis).post
-created-start k s ignoring t rand now h =
+created_start k s ignoring t rand now h =
     ap (λ (m : ℕ). record { client = (k.create s ignoring).client; tables = t; rand = rand; now = moment m }) (same now.millis h)
   where
     same : (m : ℕ) → m < 2 ^ 32 → m ≡ wrap m
     same m l = omega arith
 
 -- STEPS
-later-again : (m a b : ℕ) → plus (plus m a) b ≡ plus m (a + b)
-later-again m a b = omega arith
+later_again : (m a b : ℕ) → plus (plus m a) b ≡ plus m (a + b)
+later_again m a b = omega arith
 
-at-wrap : (m a : ℕ) → plus m (wrap a) ≡ plus m a
-at-wrap m a = omega arith
+at_wrap : (m a : ℕ) → plus m (wrap a) ≡ plus m a
+at_wrap m a = omega arith
 
 module _ (k : Calls) (s : Settings) (p : Post) where
   -- what a call leaves that is made at m
   abbrev at : Call → ℕ → Post
   at call m = leaves p (moment m) (comes k s p.client p.tables p.rand (moment m) call)
 
-  pub wrap-step : (a : ℕ) (call : Call) → stepped k s p (record { step = wrap a; call = call }) ≡ stepped k s p (record { step = a; call = call })
-  wrap-step a call = ap (at call) (at-wrap p.now.millis a)
+  pub wrap_step : (a : ℕ) (call : Call) → stepped k s p (record { step = wrap a; call = call }) ≡ stepped k s p (record { step = a; call = call })
+  wrap_step a call = ap (at call) (at_wrap p.now.millis a)
 
-  leaves-again : (before now : Instant) (x : CameTo) → leaves (leaves p before Answers) now x ≡ leaves p now x
-  leaves-again before now (Polls b left) = refl
-  leaves-again before now (Does d left) = refl
-  leaves-again before now Answers = refl
+  leaves_again : (before now : Instant) (x : CameTo) → leaves (leaves p before Answers) now x ≡ leaves p now x
+  leaves_again before now (Polls b left) = refl
+  leaves_again before now (Does d left) = refl
+  leaves_again before now Answers = refl
 
-  told-again : (a b : ℕ) (call : Call) → tells (comes k s p.client p.tables p.rand (moment (plus (plus p.now.millis a) b)) call)
+  told_again : (a b : ℕ) (call : Call) → tells (comes k s p.client p.tables p.rand (moment (plus (plus p.now.millis a) b)) call)
       ≡ tells (comes k s p.client p.tables p.rand (moment (plus p.now.millis (a + b))) call)
-  told-again a b call =
-      ap (λ (m : ℕ). tells (comes k s p.client p.tables p.rand (moment m) call)) (later-again p.now.millis a b)
+  told_again a b call =
+      ap (λ (m : ℕ). tells (comes k s p.client p.tables p.rand (moment m) call)) (later_again p.now.millis a b)
 
-  stepped-again : (a b : ℕ) (q : Query) (call : Call)
+  stepped_again : (a b : ℕ) (q : Query) (call : Call)
       → stepped k s (stepped k s p (record { step = a; call = LookUp q })) (record { step = b; call = call }) ≡ stepped k s p (record { step = a + b; call = call })
-  stepped-again a b q call =
+  stepped_again a b q call =
       let before = plus p.now.millis a in
-      leaves-again (moment before) (moment (plus before b)) (comes k s p.client p.tables p.rand (moment (plus before b)) call)
-      ∙ ap (at call) (later-again p.now.millis a b)
+      leaves_again (moment before) (moment (plus before b)) (comes k s p.client p.tables p.rand (moment (plus before b)) call)
+      ∙ ap (at call) (later_again p.now.millis a b)
 
-older-again : (a b : ℕ) (h : History) → older b (older a h) ≡ older (a + b) h
-older-again a b NoAck = refl
-older-again a b (Held lease age given) = ap (λ (n : ℕ). Held lease n given) (add_assoc age a b)
+older_again : (a b : ℕ) (h : History) → older b (older a h) ≡ older (a + b) h
+older_again a b NoAck = refl
+older_again a b (Held lease age given) = ap (λ (n : ℕ). Held lease n given) (add_assoc age a b)
 
 -- A look-up, and then the rest of the step: the same run.
 pub split_step : (k : Calls) (s : Settings) (r : Run) (a b : ℕ) (q : Query) (call : Call)
     → next k s (next k s r (record { step = a; call = LookUp q })) (record { step = b; call = call }) ≡ next k s r (record { step = a + b; call = call })
 split_step k s r a b q call = λ i. record {
-  post = stepped-again k s r.post a b q call i;
-  history = notedAll (told-again k s r.post a b call i) (older-again a b r.history i);
-  lost = lostAll r.post.tables (told-again k s r.post a b call i) (older-again a b r.history i) r.lost;
+  post = stepped_again k s r.post a b q call i;
+  history = noted_all (told_again k s r.post a b call i) (older_again a b r.history i);
+  lost = lost_all r.post.tables (told_again k s r.post a b call i) (older_again a b r.history i) r.lost;
 }

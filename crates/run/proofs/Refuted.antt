@@ -12,9 +12,9 @@ use Rattle.clock.specs.Generator.{generator}
 use Rattle.clock.specs.declared.rand.Rand.{Rand}
 use Rattle.octets.specs.Words.{bytes32}
 use Rattle.octets.specs.Items.{option}
-use Rattle.machine.specs.States.{hasLease}
-use Rattle.tables.specs.Tables.{emptyTables, dhcpAddrs, dhcpRoutes, addrTable, routeTable, prefixFits}
-use Rattle.tables.specs.Manual.{manualAddr}
+use Rattle.machine.specs.States.{has_lease}
+use Rattle.tables.specs.Tables.{empty_tables, dhcp_addrs, dhcp_routes, addr_table, route_table, prefix_fits}
+use Rattle.tables.specs.Manual.{manual_addr}
 use Rattle.tables.specs.declared.outcome.Outcome.TheVariants.{Done}
 use Rattle.tables.specs.declared.route.Route.{Route}
 use Rattle.tables.specs.declared.tables.Tables.{Tables}
@@ -24,10 +24,10 @@ use Rattle.client.specs.declared.client.Client.{Client}
 use Rattle.client.specs.declared.client.Created.{Created}
 use Rattle.settings.specs.declared.settings.Settings.{Settings}
 use Rattle.run.specs.Calls.{Calls, Manual, AddRoute, DropAddress, Reset, ByHand}
-use Rattle.run.specs.Demand3.{Entry, Run, start, Throughout, After, Open, Since, never, since, later, counted, inTime, isPolled, told, Timely, adds, stepped, total, next, unlessLost, JustlyByHand, prefix-over, router-bad, table-full, prefixIn, badRouter, noRoom, Demand3}
-use Rattle.run.specs.Wrong.{daily, hasty, refusing, unexpiring, entering, restless, clinging, keeping, unmeasured, processedAgain, losing, linger, lingering, doubling, awaiting, hurry, hurrying, wiping, counting, late, smaller, unwrapped, boasting, misnumbering, muzzled, deaf, stubborn, rigid}
+use Rattle.run.specs.Demand3.{Entry, Run, start, Throughout, After, Open, Since, never, since, later, counted, in_time, is_polled, told, Timely, adds, stepped, total, next, unless_lost, JustlyByHand, prefix_over, router_bad, table_full, prefix_in, bad_router, no_room, Demand3}
+use Rattle.run.specs.Wrong.{daily, hasty, refusing, unexpiring, entering, restless, clinging, keeping, unmeasured, processed_again, losing, linger, lingering, doubling, awaiting, hurry, hurrying, wiping, counting, late, smaller, unwrapped, boasting, misnumbering, muzzled, deaf, stubborn, rigid}
 use Rattle.run.proofs.Answers.{isAnswered, length_of}
-use Rattle.run.proofs.Sample.{plain, server, ackWith, replyWith, pollInto, pollAfter, doNow, replyNow, fromFresh, untilAck, computing, plain-created}
+use Rattle.run.proofs.Sample.{plain, server, ack_with, reply_with, poll_into, poll_after, do_now, reply_now, from_fresh, until_ack, computing, plain_created}
 
 -- A list that takes at most 2^30 ms is timely, however its polls end.
 abbrev passed : Since → ℕ
@@ -38,124 +38,124 @@ passed_later : (gap : Since) (step n : ℕ) → passed gap + (step + n) ≤ long
 passed_later never step n h = omega arith
 passed_later (since millis) step n h = omega arith
 
-in-time : (b : Bool) (gap : Since) → passed gap ≤ longest → inTime b gap
-in-time true never h = tt
-in-time true (since millis) h = h
-in-time false gap h = tt
+in_time_lem : (b : Bool) (gap : Since) → passed gap ≤ longest → in_time b gap
+in_time_lem true never h = tt
+in_time_lem true (since millis) h = h
+in_time_lem false gap h = tt
 
 passed_counted : (b : Bool) (gap : Since) (n : ℕ) → passed gap + n ≤ longest → passed (counted b gap) + n ≤ longest
 passed_counted true gap n h = omega arith
 passed_counted false gap n h = h
 
-short-timely : (k : Calls) (s : Settings) (gap : Since) (r : Run) (es : List Entry) → passed gap + total k s r.post es ≤ longest → Timely k s gap r es
-short-timely k s gap r [] h = tt
-short-timely k s gap r (e ∷ es) h =
+short_timely : (k : Calls) (s : Settings) (gap : Since) (r : Run) (es : List Entry) → passed gap + total k s r.post es ≤ longest → Timely k s gap r es
+short_timely k s gap r [] h = tt
+short_timely k s gap r (e ∷ es) h =
     let y = adds k s r.post e in
-    let Told-here = isPolled (told k s r.post e) in
+    let ToldHere = is_polled (told k s r.post e) in
     let rest = total k s (stepped k s r.post e) es in
     let there : passed (later y gap) + rest ≤ longest = passed_later gap y rest h in
-    (in-time Told-here (later y gap) (omega arith), short-timely k s (counted Told-here (later y gap)) (next k s r e) es (passed_counted Told-here (later y gap) rest there))
+    (in_time_lem ToldHere (later y gap) (omega arith), short_timely k s (counted ToldHere (later y gap)) (next k s r e) es (passed_counted ToldHere (later y gap) rest there))
 
 -- So the claim holds of it, from a fresh client on.
 claimed : (k : Calls) → k.create plain false ≡ created plain false → Demand3 k
-    → (t : Tables) → dhcpAddrs t ≡ [] → dhcpRoutes t ≡ [] → (m : ℕ) (es : List Entry) → total k plain (fromFresh t m).post es ≤ longest
-    → Throughout k plain (After k plain) (fromFresh t m) es
-claimed k e d t addrs routes m es = from made (e ∙ plain-created) refl
+    → (t : Tables) → dhcp_addrs t ≡ [] → dhcp_routes t ≡ [] → (m : ℕ) (es : List Entry) → total k plain (from_fresh t m).post es ≤ longest
+    → Throughout k plain (After k plain) (from_fresh t m) es
+claimed k e d t addrs routes m es = from made (e ∙ plain_created) refl
   where
     made : Created
     made = record { client = fresh plain false; outcome = Done }
 
     from : (c : Created) → k.create plain false ≡ c → c.outcome ≡ Done → total k plain (start c.client t (generator 0) m).post es ≤ longest
         → Throughout k plain (After k plain) (start c.client t (generator 0) m) es
-    from c same = rw (← same) (λ taken h. d.owed plain false taken t addrs routes (generator 0) m es (short-timely k plain never _ es (omega arith)))
+    from c same = rw (← same) (λ taken h. d.owed plain false taken t addrs routes (generator 0) m es (short_timely k plain never _ es (omega arith)))
 
 -- Its first entry, a poll with an empty buffer; and any list, from whole tables.
-first : (k : Calls) → k.create plain false ≡ created plain false → Demand3 k → (m : ℕ) → After k plain (fromFresh emptyTables m) (pollAfter 0)
+first : (k : Calls) → k.create plain false ≡ created plain false → Demand3 k → (m : ℕ) → After k plain (from_fresh empty_tables m) (poll_after 0)
 unfolding computing
-first k e d m = (claimed k e d emptyTables refl refl m (pollAfter 0 ∷ []) (omega arith)).0
+first k e d m = (claimed k e d empty_tables refl refl m (poll_after 0 ∷ []) (omega arith)).0
 
-opened : (k : Calls) → k.create plain false ≡ created plain false → Demand3 k → (es : List Entry) → Throughout k plain (Open k plain) (fromFresh emptyTables 0) es
+opened : (k : Calls) → k.create plain false ≡ created plain false → Demand3 k → (es : List Entry) → Throughout k plain (Open k plain) (from_fresh empty_tables 0) es
 unfolding computing
-opened k e d es = from made (e ∙ plain-created) refl
+opened k e d es = from made (e ∙ plain_created) refl
   where
     made : Created
     made = record { client = fresh plain false; outcome = Done }
 
-    from : (c : Created) → k.create plain false ≡ c → c.outcome ≡ Done → Throughout k plain (Open k plain) (start c.client emptyTables (generator 0) 0) es
-    from c same = rw (← same) (λ taken. d.no-lockout plain false taken emptyTables refl (generator 0) 0 es)
+    from : (c : Created) → k.create plain false ≡ c → c.outcome ≡ Done → Throughout k plain (Open k plain) (start c.client empty_tables (generator 0) 0) es
+    from c same = rw (← same) (λ taken. d.no_lockout plain false taken empty_tables refl (generator 0) 0 es)
 
 -- Wakes every 24 hours: the second Discover is due 10 s after the first, and draws an id.
-pub daily-fails : Demand3 daily → ⊥
+pub daily_fails : Demand3 daily → ⊥
 unfolding computing
-daily-fails d =
+daily_fails d =
     let wakes = ((first daily refl d 0).polls _ refl).wakes in
-    let quiet = wakes.before [] tt (pollAfter 10000) (omega arith) in
+    let quiet = wakes.before [] tt (poll_after 10000) (omega arith) in
     let drawn = ap (λ (g : Rand). g.state) quiet.rand in
     omega arith
 
 -- Compares moments as plain numbers: 20 s before the clock wraps the second Discover is due 10 s on, and the moment 24 hours on
 -- is a smaller number.
-pub unwrapped-fails : Demand3 unwrapped → ⊥
+pub unwrapped_fails : Demand3 unwrapped → ⊥
 unfolding computing smaller
-unwrapped-fails d =
+unwrapped_fails d =
     let wakes = ((first unwrapped refl d 4294947296).polls _ refl).wakes in
-    let quiet = wakes.before [] tt (pollAfter 10000) (omega arith) in
+    let quiet = wakes.before [] tt (poll_after 10000) (omega arith) in
     let drawn = ap (λ (g : Rand). g.state) quiet.rand in
     omega arith
 
 -- Reports 8 before measuring: a poll right after the first, with a buffer of one octet, is refused; and one of 556 octets gets
 -- no message then.
-pub hasty-fails : Demand3 hasty → ⊥
+pub hasty_fails : Demand3 hasty → ⊥
 unfolding computing unmeasured
-hasty-fails d =
+hasty_fails d =
     let wakes = ((first hasty refl d 0).polls _ refl).wakes in
-    false≢true (ap isAnswered (wakes.before [] tt (pollInto (0 ∷ []) 0) wakes.ahead).answered)
+    false≢true (ap isAnswered (wakes.before [] tt (poll_into (0 ∷ []) 0) wakes.ahead).answered)
 
-never-nothing : (n m : ℕ) → 0 < n → m ≡ 0 → m ≡ n → ⊥
-never-nothing n m h e f = omega arith
+never_nothing : (n m : ℕ) → 0 < n → m ≡ 0 → m ≡ n → ⊥
+never_nothing n m h e f = omega arith
 
-pub hasty-fails-longer : Demand3 hasty → ⊥
+pub hasty_fails_longer : Demand3 hasty → ⊥
 unfolding computing unmeasured
-hasty-fails-longer d =
-    let short = (opened hasty refl d (pollAfter 0 ∷ pollInto (0 ∷ []) 0 ∷ [])).1.0.polls 8 refl in
+hasty_fails_longer d =
+    let short = (opened hasty refl d (poll_after 0 ∷ poll_into (0 ∷ []) 0 ∷ [])).1.0.polls 8 refl in
     let built = short.longer (replicate 556 0) short.most in
-    never-nothing short.n _ (omega (arith, short.short)) refl (ap length_of built.answered ∙ built.length)
+    never_nothing short.n _ (omega (arith, short.short)) refl (ap length_of built.answered ∙ built.length)
 
 -- Refuses every poll: one with an empty buffer, too.
-pub refusing-fails : Demand3 refusing → ⊥
+pub refusing_fails : Demand3 refusing → ⊥
 unfolding computing
-refusing-fails d =
-    let lent = ((opened refusing refl d (pollAfter 0 ∷ [])).0.polls 8 refl).lent in
+refusing_fails d =
+    let lent = ((opened refusing refl d (poll_after 0 ∷ [])).0.polls 8 refl).lent in
     omega arith
 
 -- Refuses by 7: a Discover is due, and the buffer has one octet.
-pub misnumbering-fails : Demand3 misnumbering → ⊥
+pub misnumbering_fails : Demand3 misnumbering → ⊥
 unfolding computing
-misnumbering-fails d =
-    let number : ◌≡◌ {A = ℕ} 7 8 = ((opened misnumbering refl d (pollInto (0 ∷ []) 0 ∷ [])).0.polls 7 refl).by_8 in
+misnumbering_fails d =
+    let number : ◌≡◌ {A = ℕ} 7 8 = ((opened misnumbering refl d (poll_into (0 ∷ []) 0 ∷ [])).0.polls 7 refl).by_8 in
     omega arith
 
 -- Refuses every buffer that is not empty: one of 556 octets, too.
-pub muzzled-fails : Demand3 muzzled → ⊥
+pub muzzled_fails : Demand3 muzzled → ⊥
 unfolding computing
-muzzled-fails d =
-    let short = (opened muzzled refl d (pollInto (replicate 556 0) 0 ∷ [])).0.polls 8 refl in
+muzzled_fails d =
+    let short = (opened muzzled refl d (poll_into (replicate 556 0) 0 ∷ [])).0.polls 8 refl in
     omega (arith, short.short, short.most)
 
 -- Never wakes for expiry: a poll 1 ms before it rebinds, the next Request lies past it, and the poll 1 ms on drops the lease.
-pub unexpiring-fails : Demand3 unexpiring → ⊥
+pub unexpiring_fails : Demand3 unexpiring → ⊥
 unfolding computing
-unexpiring-fails d =
-    let run = claimed unexpiring refl d emptyTables refl refl 0 (untilAck [] ++ (pollAfter 119999 ∷ [])) (omega arith) in
+unexpiring_fails d =
+    let run = claimed unexpiring refl d empty_tables refl refl 0 (until_ack [] ++ (poll_after 119999 ∷ [])) (omega arith) in
     let wakes = (run.1.1.1.1.0.polls (silent (moment 179999)) refl).wakes in
-    let quiet = wakes.before [] tt (pollAfter 1) (omega arith) in
-    false≢true (ap (λ (c : Client). hasLease c.session.state) quiet.client)
+    let quiet = wakes.before [] tt (poll_after 1) (omega arith) in
+    false≢true (ap (λ (c : Client). has_lease c.session.state) quiet.client)
 
 -- Enters a lost entry again: four manual addresses, so that DHCP's is lost; then one is dropped, and the same ACK comes again.
 abbrev crowded : Tables
 crowded = record {
-  ip_addrs = addrTable (manualAddr 1 8 ∷ manualAddr 2 8 ∷ manualAddr 3 8 ∷ manualAddr 4 8 ∷ []);
-  routes = routeTable [];
+  ip_addrs = addr_table (manual_addr 1 8 ∷ manual_addr 2 8 ∷ manual_addr 3 8 ∷ manual_addr 4 8 ∷ []);
+  routes = route_table [];
   config_generation = 0;
 }
 
@@ -163,142 +163,142 @@ abbrev is_empty : {A : Type 0} → List A → Bool
 is_empty [] = true
 is_empty (x ∷ xs) = false
 
-pub entering-fails : Demand3 entering → ⊥
-unfolding computing processedAgain unlessLost
-entering-fails d =
-    let run = claimed entering refl d crowded refl refl 0 (untilAck [] ++ (doNow (ByHand (DropAddress 4 8)) ∷ replyNow (ackWith []) ∷ [])) (omega arith) in
+pub entering_fails : Demand3 entering → ⊥
+unfolding computing processed_again unless_lost
+entering_fails d =
+    let run = claimed entering refl d crowded refl refl 0 (until_ack [] ++ (do_now (ByHand (DropAddress 4 8)) ∷ reply_now (ack_with []) ∷ [])) (omega arith) in
     false≢true (ap is_empty run.1.1.1.1.1.0.tables.addrs)
 
 -- Wakes every millisecond: nothing is built 1 ms after the first Discover.
-one-is-no-day : 1 ≡ day → ⊥
-one-is-no-day e = omega arith
+one_is_no_day : 1 ≡ day → ⊥
+one_is_no_day e = omega arith
 
-pub restless-fails : Demand3 restless → ⊥
+pub restless_fails : Demand3 restless → ⊥
 unfolding computing
-restless-fails d =
-    let owed = ((first restless refl d 0).polls _ refl).wakes.at one-is-no-day in
-    let built = owed.builds [] tt tt (pollInto (replicate 556 0) 1) refl owed.most in
-    never-nothing owed.n _ owed.some refl (ap length_of built.answered ∙ built.length)
+restless_fails d =
+    let owed = ((first restless refl d 0).polls _ refl).wakes.at one_is_no_day in
+    let built = owed.builds [] tt tt (poll_into (replicate 556 0) 1) refl owed.most in
+    never_nothing owed.n _ owed.some refl (ap length_of built.answered ∙ built.length)
 
 -- Keeps a lease for ever: at expiry, too.
-pub clinging-fails : Demand3 clinging → ⊥
+pub clinging_fails : Demand3 clinging → ⊥
 unfolding computing keeping
-clinging-fails d =
-    let run = claimed clinging refl d emptyTables refl refl 0 (untilAck [] ++ (pollAfter 120000 ∷ [])) (omega arith) in
+clinging_fails d =
+    let run = claimed clinging refl d empty_tables refl refl 0 (until_ack [] ++ (poll_after 120000 ∷ [])) (omega arith) in
     false≢true (sym (run.1.1.1.1.0.polls (silent (moment 86520000)) refl).lease)
 
 -- Loses its lease on a reply that it passes over, here an empty one.
-pub losing-fails : Demand3 losing → ⊥
-unfolding computing unlessLost
-losing-fails d =
-    let run = claimed losing refl d emptyTables refl refl 0 (untilAck [] ++ (replyNow [] ∷ [])) (omega arith) in
+pub losing_fails : Demand3 losing → ⊥
+unfolding computing unless_lost
+losing_fails d =
+    let run = claimed losing refl d empty_tables refl refl 0 (until_ack [] ++ (reply_now [] ∷ [])) (omega arith) in
     false≢true (ap is_empty (sym run.1.1.1.1.0.tables.addrs))
 
 -- Leaves its entries after a NAK.
-abbrev nakBytes : List ℕ
-nakBytes = replyWith (option 53 (6 ∷ []) ++ (option 54 (bytes32 server.identifier) ++ (255 ∷ [])))
+abbrev nak_bytes : List ℕ
+nak_bytes = reply_with (option 53 (6 ∷ []) ++ (option 54 (bytes32 server.identifier) ++ (255 ∷ [])))
 
-pub lingering-fails : Demand3 lingering → ⊥
-unfolding computing linger unlessLost
-lingering-fails d =
-    let run = claimed lingering refl d emptyTables refl refl 0 (untilAck [] ++ (replyNow nakBytes ∷ [])) (omega arith) in
+pub lingering_fails : Demand3 lingering → ⊥
+unfolding computing linger unless_lost
+lingering_fails d =
+    let run = claimed lingering refl d empty_tables refl refl 0 (until_ack [] ++ (reply_now nak_bytes ∷ [])) (omega arith) in
     false≢true (ap is_empty run.1.1.1.1.0.tables.addrs)
 
 -- Enters its route twice.
-abbrev tailOf : {A : Type 0} → List A → List A
-tailOf [] = []
-tailOf (x ∷ xs) = xs
+abbrev tail_of : {A : Type 0} → List A → List A
+tail_of [] = []
+tail_of (x ∷ xs) = xs
 
-pub doubling-fails : Demand3 doubling → ⊥
-unfolding computing unlessLost
-doubling-fails d =
-    let run = claimed doubling refl d emptyTables refl refl 0 (untilAck (option 3 (10 ∷ 0 ∷ 0 ∷ 1 ∷ []))) (omega arith) in
-    false≢true (ap (λ (xs : List Route). is_empty (tailOf xs)) run.1.1.1.0.tables.routes)
+pub doubling_fails : Demand3 doubling → ⊥
+unfolding computing unless_lost
+doubling_fails d =
+    let run = claimed doubling refl d empty_tables refl refl 0 (until_ack (option 3 (10 ∷ 0 ∷ 0 ∷ 1 ∷ []))) (omega arith) in
+    false≢true (ap (λ (xs : List Route). is_empty (tail_of xs)) run.1.1.1.0.tables.routes)
 
 -- Does nothing with an empty buffer.
-pub awaiting-fails : Demand3 awaiting → ⊥
+pub awaiting_fails : Demand3 awaiting → ⊥
 unfolding computing
-awaiting-fails d =
+awaiting_fails d =
     let ahead : 0 < 0 = ((first awaiting refl d 0).polls _ refl).wakes.ahead in
     omega arith
 
 -- Says 8 by the longest message that there could be: a Discover of 270 octets is due, and 300 are refused.
-no-day : 10000 ≡ day → ⊥
-no-day e = omega arith
+no_day : 10000 ≡ day → ⊥
+no_day e = omega arith
 
 fits : (n : ℕ) → 270 ≡ n → n ≤ 300
 fits n e = omega arith
 
-pub hurrying-fails : Demand3 hurrying → ⊥
+pub hurrying_fails : Demand3 hurrying → ⊥
 unfolding computing hurry
-hurrying-fails d =
-    let owed = ((first hurrying refl d 0).polls _ refl).wakes.at no-day in
-    let built = owed.builds [] tt tt (pollInto (replicate 556 0) 10000) refl owed.most in
-    let n-is : 270 ≡ owed.n = ap length_of built.answered ∙ built.length in
-    false≢true (ap isAnswered (owed.builds [] tt tt (pollInto (replicate 300 0) 10000) refl (fits owed.n n-is)).answered)
+hurrying_fails d =
+    let owed = ((first hurrying refl d 0).polls _ refl).wakes.at no_day in
+    let built = owed.builds [] tt tt (poll_into (replicate 556 0) 10000) refl owed.most in
+    let n_is : 270 ≡ owed.n = ap length_of built.answered ∙ built.length in
+    false≢true (ap isAnswered (owed.builds [] tt tt (poll_into (replicate 300 0) 10000) refl (fits owed.n n_is)).answered)
 
 -- Wipes the buffer; bumps the generation; answers a length.
-pub wiping-fails : Demand3 wiping → ⊥
+pub wiping_fails : Demand3 wiping → ⊥
 unfolding computing
-wiping-fails d =
+wiping_fails d =
     let wakes = ((first wiping refl d 0).polls _ refl).wakes in
-    false≢true (ap is_empty (sym (wakes.before [] tt (pollInto (0 ∷ []) 0) wakes.ahead).buffer))
+    false≢true (ap is_empty (sym (wakes.before [] tt (poll_into (0 ∷ []) 0) wakes.ahead).buffer))
 
-pub counting-fails : Demand3 counting → ⊥
+pub counting_fails : Demand3 counting → ⊥
 unfolding computing
-counting-fails d =
+counting_fails d =
     let wakes = ((first counting refl d 0).polls _ refl).wakes in
-    let same : ◌≡◌ {A = ℕ} 2 1 = ap (λ (t : Tables). t.config_generation) (wakes.before [] tt (pollAfter 0) wakes.ahead).tables in
+    let same : ◌≡◌ {A = ℕ} 2 1 = ap (λ (t : Tables). t.config_generation) (wakes.before [] tt (poll_after 0) wakes.ahead).tables in
     omega arith
 
-pub boasting-fails : Demand3 boasting → ⊥
+pub boasting_fails : Demand3 boasting → ⊥
 unfolding computing
-boasting-fails d =
+boasting_fails d =
     let wakes = ((first boasting refl d 0).polls _ refl).wakes in
-    let quiet = wakes.before [] tt (pollAfter 0) wakes.ahead in
+    let quiet = wakes.before [] tt (poll_after 0) wakes.ahead in
     let none : ◌≡◌ {A = ℕ} 1 0 = ap length_of quiet.answered ∙ quiet.length in
     omega arith
 
 -- Half a turn of the clock late.
-pub late-fails : Demand3 late → ⊥
+pub late_fails : Demand3 late → ⊥
 unfolding computing
-late-fails d =
+late_fails d =
     let within : 2147493648 ≤ day = ((first late refl d 0).polls _ refl).wakes.within in
     omega arith
 
 -- Refuses every reply; every reset.
-pub deaf-fails : Demand3 deaf → ⊥
+pub deaf_fails : Demand3 deaf → ⊥
 unfolding computing
-deaf-fails d = (opened deaf refl d (replyNow [] ∷ [])).0.deeds 9 refl
+deaf_fails d = (opened deaf refl d (reply_now [] ∷ [])).0.deeds 9 refl
 
-pub stubborn-fails : Demand3 stubborn → ⊥
+pub stubborn_fails : Demand3 stubborn → ⊥
 unfolding computing
-stubborn-fails d = (opened stubborn refl d (doNow Reset ∷ [])).0.deeds 9 refl
+stubborn_fails d = (opened stubborn refl d (do_now Reset ∷ [])).0.deeds 9 refl
 
 -- Refuses every manual call, by 9, 10 or 11: a route that is in order, into empty tables.
 abbrev Grounds : Manual → Tables → ℕ → Type 0
-Grounds m t n = (n ≡ 9 → prefixFits (prefixIn m) ≡ false) × (n ≡ 10 → badRouter m ≡ true) × (n ≡ 11 → noRoom m t ≡ true)
+Grounds m t n = (n ≡ 9 → prefix_fits (prefix_in m) ≡ false) × (n ≡ 10 → bad_router m ≡ true) × (n ≡ 11 → no_room m t ≡ true)
 
 grounds : (m : Manual) (t : Tables) (n : ℕ) → JustlyByHand m t n → Grounds m t n
-grounds m t _ (prefix-over e) = (λ p. e, λ p. absurd (omega arith), λ p. absurd (omega arith))
-grounds m t _ (router-bad e) = (λ p. absurd (omega arith), λ p. e, λ p. absurd (omega arith))
-grounds m t _ (table-full e) = (λ p. absurd (omega arith), λ p. absurd (omega arith), λ p. e)
+grounds m t _ (prefix_over e) = (λ p. e, λ p. absurd (omega arith), λ p. absurd (omega arith))
+grounds m t _ (router_bad e) = (λ p. absurd (omega arith), λ p. e, λ p. absurd (omega arith))
+grounds m t _ (table_full e) = (λ p. absurd (omega arith), λ p. absurd (omega arith), λ p. e)
 
 abbrev sane : Manual
 sane = AddRoute 0 8 16777226
 
-sane-grounds : (number : ℕ) → Demand3 (rigid number) → Grounds sane emptyTables number
+sane_grounds : (number : ℕ) → Demand3 (rigid number) → Grounds sane empty_tables number
 unfolding computing
-sane-grounds number d = grounds sane emptyTables number ((opened (rigid number) refl d (doNow (ByHand sane) ∷ [])).0.deeds number refl)
+sane_grounds number d = grounds sane empty_tables number ((opened (rigid number) refl d (do_now (ByHand sane) ∷ [])).0.deeds number refl)
 
-pub rigid-9-fails : Demand3 (rigid 9) → ⊥
+pub rigid_9_fails : Demand3 (rigid 9) → ⊥
 unfolding computing
-rigid-9-fails d = false≢true (sym ((sane-grounds 9 d).0 refl))
+rigid_9_fails d = false≢true (sym ((sane_grounds 9 d).0 refl))
 
-pub rigid-10-fails : Demand3 (rigid 10) → ⊥
+pub rigid_10_fails : Demand3 (rigid 10) → ⊥
 unfolding computing
-rigid-10-fails d = false≢true ((sane-grounds 10 d).1 refl)
+rigid_10_fails d = false≢true ((sane_grounds 10 d).1 refl)
 
-pub rigid-11-fails : Demand3 (rigid 11) → ⊥
+pub rigid_11_fails : Demand3 (rigid 11) → ⊥
 unfolding computing
-rigid-11-fails d = false≢true ((sane-grounds 11 d).2 refl)
+rigid_11_fails d = false≢true ((sane_grounds 11 d).2 refl)

@@ -8,44 +8,44 @@ use lib.ListN.{replicate}
 use Rattle.choice.specs.Choice.{if◌then◌else◌}
 use Rattle.clock.specs.Durations.{duration}
 use Rattle.clock.specs.Moments.{before, due, earlier, rest}
-use Rattle.clock.specs.Waits.{standardWaits}
-use Rattle.clock.specs.Generator.{nextState, outputOf, generator, drawn32}
-use Rattle.octets.specs.Words.{word32, bytes32, word32At}
-use Rattle.octets.specs.Runs.{over, sameBytes}
-use Rattle.octets.specs.Addresses.{unicast, lengthUpTo}
-use Rattle.octets.specs.Items.{cookie, option, wholeFrom}
-use Rattle.wire.specs.Options.{headItem, optionsFrom, firstWith}
-use Rattle.wire.specs.Readings.{headerCheck}
-use Rattle.wire.specs.Stored.{pushed, allPushed, wholeStore}
-use Rattle.message.specs.Messages.{message, optionIf, addressOption, sizeOption, nameOption}
-use Rattle.message.specs.Datagrams.{datagram, checksumField}
-use Rattle.message.specs.Written.{listFits}
-use Rattle.machine.specs.Times.{leaseTime, timesOf}
-use Rattle.machine.specs.Decisions.{decided, decidedDiscovering, decidedRequesting, decidedRenewing, retryAt, rebinds}
+use Rattle.clock.specs.Waits.{standard_waits}
+use Rattle.clock.specs.Generator.{next_state, output_of, generator, drawn32}
+use Rattle.octets.specs.Words.{word32, bytes32, word32_at}
+use Rattle.octets.specs.Runs.{over, same_bytes}
+use Rattle.octets.specs.Addresses.{unicast, length_up_to}
+use Rattle.octets.specs.Items.{cookie, option, whole_from}
+use Rattle.wire.specs.Options.{head_item, options_from, first_with}
+use Rattle.wire.specs.Readings.{header_check}
+use Rattle.wire.specs.Stored.{pushed, all_pushed, whole_store}
+use Rattle.message.specs.Messages.{message, option_if, address_option, size_option, name_option}
+use Rattle.message.specs.Datagrams.{datagram, checksum_field}
+use Rattle.message.specs.Written.{list_fits}
+use Rattle.machine.specs.Times.{lease_time, times_of}
+use Rattle.machine.specs.Decisions.{decided, decided_discovering, decided_requesting, decided_renewing, next_retry, rebinds}
 use Rattle.machine.specs.declared.state.ClientState.{ClientState}
 use Rattle.machine.specs.declared.state.DhcpServerInfo.{DhcpServerInfo}
-use Rattle.tables.specs.Entries.{only, all, lessLost}
-use Rattle.tables.specs.Tables.{wholeAddrs, wholeRoutes, wholeTables}
-use Rattle.tables.specs.Applied.{appliedAddrs, appliedRoutes}
-use Rattle.tables.specs.Manual.{admitted, dropAddress}
+use Rattle.tables.specs.Entries.{only, all, less_lost}
+use Rattle.tables.specs.Tables.{whole_addrs, whole_routes, whole_tables}
+use Rattle.tables.specs.Applied.{applied_addrs, applied_routes}
+use Rattle.tables.specs.Manual.{admitted, drop_address}
 use Rattle.tables.specs.declared.tables.Tables.{Tables}
 use Rattle.tables.specs.declared.outcome.Outcome.TheVariants.{Done}
-use Rattle.settings.specs.Settings.{refusalOf, listsRefusal, sizeRefusal, overCap, list_of, maximumOf}
-use Rattle.lease.specs.Leases.{leaseOf, wholeLease}
-use Rattle.client.specs.Clients.{fresh, created, leaseFits, wholeClient, wholeAll}
+use Rattle.settings.specs.Settings.{refusal_of, lists_refusal, size_refusal, over_cap, list_of, maximum_of}
+use Rattle.lease.specs.Leases.{lease_of, whole_lease}
+use Rattle.client.specs.Clients.{fresh, created, lease_fits, whole_client, whole_all}
 use Rattle.client.specs.Resets.{cleared}
-use Rattle.judge.specs.Judged.{needing, judgedOffer, judgedAddress, judgedAck, judgedKind, judgedSender, judged}
-use Rattle.judge.specs.Awaited.{offerAlone, ackOrNak}
-use Rattle.lease.specs.Bound.{boundBy}
-use Rattle.client.specs.Taken.{holds, heldBy, ackedAs, acked, replied, processed}
-use Rattle.client.specs.Polls.{sent, polledWith}
-use Rattle.sending.specs.Sendings.{idFor, randAfter, renewsTo, datagramFor}
+use Rattle.judge.specs.Judged.{needing, judged_offer, judged_address, judged_ack, judged_kind, judged_sender, judged}
+use Rattle.judge.specs.Awaited.{offer_alone, ack_or_nak}
+use Rattle.lease.specs.Bound.{bound_by}
+use Rattle.client.specs.Taken.{holds, held_by, acked_as, acked, replied, processed}
+use Rattle.client.specs.Polls.{sent, polled_with}
+use Rattle.sending.specs.Sendings.{id_for, rand_after, renews_to, datagramFor}
 use Rattle.settings.specs.declared.settings.Settings.{Settings}
 use Rattle.settings.specs.declared.settings.Medium.TheVariants.{Ethernet}
 use Rattle.lease.specs.declared.lease.DhcpLease.{DhcpLease}
 use Rattle.client.specs.declared.client.Client.{Client}
 use Rattle.run.specs.Calls.{Calls, Deed, Reply, Poll, Do}
-use Rattle.run.specs.Demand3.{Entry, Run, start, next, expired, acceptedAs, lostBy}
+use Rattle.run.specs.Demand3.{Entry, Run, start, next, expired, accepted_as, lost_by}
 
 -- Ethernet, MTU 576, hardware address 02:00:00:00:00:01; no name, no list, no extra options, no maximum.
 abbrev hardware : List ℕ
@@ -85,62 +85,62 @@ abbrev pub address : ℕ
 address = word32 10 0 0 5
 
 -- A reply to its first Discover: a generator of state 0 draws 3.
-abbrev pub replyWith : List ℕ → List ℕ
-replyWith options =
+abbrev pub reply_with : List ℕ → List ℕ
+reply_with options =
     (2 ∷ 1 ∷ 6 ∷ 0 ∷ [])
     ++ (bytes32 3 ++ (replicate 8 0 ++ (bytes32 address ++ (replicate 8 0 ++ (hardware ++ (replicate 202 0 ++ (cookie ++ options)))))))
 
 unfoldable pub offer : List ℕ
-offer = replyWith (option 53 (2 ∷ []) ++ (option 54 (bytes32 server.identifier) ++ (255 ∷ [])))
+offer = reply_with (option 53 (2 ∷ []) ++ (option 54 (bytes32 server.identifier) ++ (255 ∷ [])))
 
 -- With mask 255.255.255.0, no router, and more options behind these.
-unfoldable pub ackWith : List ℕ → List ℕ
-ackWith more =
-    replyWith (option 53 (5 ∷ []) ++ (option 54 (bytes32 server.identifier) ++ (option 1 (255 ∷ 255 ∷ 255 ∷ 0 ∷ []) ++ (more ++ (255 ∷ [])))))
+unfoldable pub ack_with : List ℕ → List ℕ
+ack_with more =
+    reply_with (option 53 (5 ∷ []) ++ (option 54 (bytes32 server.identifier) ++ (option 1 (255 ∷ 255 ∷ 255 ∷ 0 ∷ []) ++ (more ++ (255 ∷ [])))))
 
 -- The lease that it brings.
-unfoldable pub leaseBy : List ℕ → DhcpLease
-leaseBy more = leaseOf server address 24 (ackWith more)
+unfoldable pub lease_by : List ℕ → DhcpLease
+lease_by more = lease_of server address 24 (ack_with more)
 
 -- Entries: a poll, and one with an empty buffer; a deed, and a reply of that server, at the moment of the entry before.
-abbrev pub pollInto : List ℕ → ℕ → Entry
-pollInto buffer step = record { step = step; call = Poll buffer }
+abbrev pub poll_into : List ℕ → ℕ → Entry
+poll_into buffer step = record { step = step; call = Poll buffer }
 
-abbrev pub pollAfter : ℕ → Entry
-pollAfter = pollInto []
+abbrev pub poll_after : ℕ → Entry
+poll_after = poll_into []
 
-abbrev pub doNow : Deed → Entry
-doNow deed = record { step = 0; call = Do deed }
+abbrev pub do_now : Deed → Entry
+do_now deed = record { step = 0; call = Do deed }
 
-abbrev pub replyNow : List ℕ → Entry
-replyNow bytes = doNow (Reply server.address bytes)
+abbrev pub reply_now : List ℕ → Entry
+reply_now bytes = do_now (Reply server.address bytes)
 
 -- A fresh client, with such a generator, at a moment; and the run from there on.
-abbrev pub fromFresh : Tables → ℕ → Run
-fromFresh t m = start (fresh plain false) t (generator 0) m
+abbrev pub from_fresh : Tables → ℕ → Run
+from_fresh t m = start (fresh plain false) t (generator 0) m
 
 abbrev pub runs : Calls → Run → List Entry → Run
 runs k r [] = r
 runs k r (e ∷ es) = runs k (next k plain r e) es
 
 -- Its first entries, up to an ACK.
-abbrev pub untilAck : List ℕ → List Entry
-untilAck more = pollAfter 0 ∷ replyNow offer ∷ pollAfter 0 ∷ replyNow (ackWith more) ∷ []
+abbrev pub until_ack : List ℕ → List Entry
+until_ack more = poll_after 0 ∷ reply_now offer ∷ poll_after 0 ∷ reply_now (ack_with more) ∷ []
 
 -- What all this is computed by.
 unfoldable pub computing : Unit {0}
-unfolding if◌then◌else◌ standardWaits before due earlier rest nextState outputOf drawn32
-    word32At over sameBytes unicast lengthUpTo wholeFrom
-    headItem optionsFrom firstWith headerCheck pushed allPushed wholeStore
-    message optionIf addressOption sizeOption nameOption listFits datagram checksumField
-    leaseTime timesOf offerAlone ackOrNak decided decidedDiscovering decidedRequesting decidedRenewing retryAt rebinds
-    only all lessLost wholeAddrs wholeRoutes wholeTables appliedAddrs appliedRoutes admitted dropAddress
-    refusalOf listsRefusal sizeRefusal overCap list_of maximumOf wholeLease created leaseFits wholeClient wholeAll cleared
-    needing judgedOffer judgedAddress judgedAck judgedKind judgedSender judged
-    boundBy holds heldBy ackedAs acked replied processed idFor randAfter renewsTo datagramFor sent polledWith
-    expired acceptedAs lostBy plain offer ackWith leaseBy
+unfolding if◌then◌else◌ standard_waits before due earlier rest next_state output_of drawn32
+    word32_at over same_bytes unicast length_up_to whole_from
+    head_item options_from first_with header_check pushed all_pushed whole_store
+    message option_if address_option size_option name_option list_fits datagram checksum_field
+    lease_time times_of offer_alone ack_or_nak decided decided_discovering decided_requesting decided_renewing next_retry rebinds
+    only all less_lost whole_addrs whole_routes whole_tables applied_addrs applied_routes admitted drop_address
+    refusal_of lists_refusal size_refusal over_cap list_of maximum_of whole_lease created lease_fits whole_client whole_all cleared
+    needing judged_offer judged_address judged_ack judged_kind judged_sender judged
+    bound_by holds held_by acked_as acked replied processed id_for rand_after renews_to datagramFor sent polled_with
+    expired accepted_as lost_by plain offer ack_with lease_by
 computing = tt
 
-pub plain-created : created plain false ≡ record { client = fresh plain false; outcome = Done }
+pub plain_created : created plain false ≡ record { client = fresh plain false; outcome = Done }
 unfolding computing
-plain-created = refl
+plain_created = refl

@@ -17,16 +17,16 @@ use Rattle.clock.specs.Moments.{wrap, plus, gap, moment}
 use Rattle.clock.specs.Clocks.{day}
 use Rattle.clock.specs.declared.instant.Instant.{Instant}
 use Rattle.clock.specs.declared.rand.Rand.{Rand}
-use Rattle.octets.specs.Addresses.{unicast, prefixLen}
-use Rattle.octets.specs.Codes.{ack, nak, maskCode}
+use Rattle.octets.specs.Addresses.{unicast, prefix_len}
+use Rattle.octets.specs.Codes.{ack, nak, mask_code}
 use Rattle.octets.specs.declared.number.MaybeNumber.{MaybeNumber}
 use Rattle.octets.specs.declared.number.MaybeNumber.TheVariants.{None, Some}
-use Rattle.wire.specs.Options.{optionData}
-use Rattle.wire.specs.Readings.{yourAddress, messageType, address_of, router}
-use Rattle.machine.specs.States.{hasLease}
+use Rattle.wire.specs.Options.{option_data}
+use Rattle.wire.specs.Readings.{your_address, message_type, address_of, router}
+use Rattle.machine.specs.States.{has_lease}
 use Rattle.tables.specs.Entries.{full}
-use Rattle.tables.specs.Tables.{addrsOf, routesOf, dhcpAddrs, otherAddrs, dhcpRoutes, otherRoutes, prefixFits, wholeTables}
-use Rattle.tables.specs.Applied.{sameCidr, sameRouter, leasedAddrs, leasedRoutes}
+use Rattle.tables.specs.Tables.{addrs_of, routes_of, dhcp_addrs, other_addrs, dhcp_routes, other_routes, prefix_fits, whole_tables}
+use Rattle.tables.specs.Applied.{same_cidr, same_router, leased_addrs, leased_routes}
 use Rattle.tables.specs.declared.tables.Tables.{Tables}
 use Rattle.tables.specs.declared.apply.MaybeCidr.{MaybeCidr}
 use Rattle.tables.specs.declared.apply.MaybeCidr.TheVariants.{Absent, Cidr}
@@ -34,9 +34,9 @@ use Rattle.tables.specs.declared.apply.Installed.{Installed}
 use Rattle.tables.specs.declared.outcome.Outcome.{Outcome}
 use Rattle.tables.specs.declared.outcome.Outcome.TheVariants as outcome
 use Rattle.tables.specs.declared.manual.Changed.{Changed}
-use Rattle.settings.specs.Settings.{maximumOf}
+use Rattle.settings.specs.Settings.{maximum_of}
 use Rattle.lease.specs.Leases.{nothing}
-use Rattle.lease.specs.Bound.{replyLease}
+use Rattle.lease.specs.Bound.{reply_lease}
 use Rattle.client.specs.Polls.{PolledInto}
 use Rattle.settings.specs.declared.settings.Settings.{Settings}
 use Rattle.client.specs.declared.client.Client.{Client}
@@ -54,19 +54,19 @@ use Rattle.run.specs.Calls.{Post, Manual, AddAddress, DropAddress, AddRoute, Dro
 -- EVENTS, of which the history is told
 
 -- What an ACK gives, read from its bytes: address and prefix; the router of the default route, or none.
-abbrev pub prefixBy : MaybeNumber → MaybeNumber
-prefixBy None = None
-prefixBy (Some mask) = prefixLen mask
+abbrev pub prefix_by : MaybeNumber → MaybeNumber
+prefix_by None = None
+prefix_by (Some mask) = prefix_len mask
 
-abbrev pub cidrOf : MaybeNumber → MaybeNumber → MaybeCidr
-cidrOf None None = Absent
-cidrOf None (Some prefix) = Absent
-cidrOf (Some address) None = Absent
-cidrOf (Some address) (Some prefix) = Cidr address prefix
+abbrev pub cidr_of : MaybeNumber → MaybeNumber → MaybeCidr
+cidr_of None None = Absent
+cidr_of None (Some prefix) = Absent
+cidr_of (Some address) None = Absent
+cidr_of (Some address) (Some prefix) = Cidr address prefix
 
-abbrev pub givenBy : List ℕ → Installed
-givenBy bytes = record {
-  address = cidrOf (yourAddress bytes) (prefixBy (address_of (optionData maskCode bytes)));
+abbrev pub given_by : List ℕ → Installed
+given_by bytes = record {
+  address = cidr_of (your_address bytes) (prefix_by (address_of (option_data mask_code bytes)));
   router = router bytes;
 }
 
@@ -78,30 +78,30 @@ pub data Event : Type 0 where
   Cleared : Event
 
 -- "A reply is accepted if its call gives neither a refusal nor 20 to 30." What it is, its message type says.
-unfoldable pub acceptedAs : Settings → List ℕ → ℕ → List Event
-acceptedAs s bytes kind =
-    if eqb kind ack then Acked (replyLease (maximumOf s) bytes) (givenBy bytes) ∷ []
+unfoldable pub accepted_as : Settings → List ℕ → ℕ → List Event
+accepted_as s bytes kind =
+    if eqb kind ack then Acked (reply_lease (maximum_of s) bytes) (given_by bytes) ∷ []
     else if eqb kind nak then Cleared ∷ []
     else []
 
 abbrev pub accepted : Settings → List ℕ → MaybeNumber → List Event
 accepted s bytes None = []
-accepted s bytes (Some kind) = acceptedAs s bytes kind
+accepted s bytes (Some kind) = accepted_as s bytes kind
 
 -- "The history is kept from creation's settings and the entries' arguments, steps and answers alone." These three
 -- take nothing else: they say what it is told of a poll, of a reply, of a reset. Of the rest it is told nothing.
-abbrev pub pollTells : PollOutcome → List Event
-pollTells (poll.Answered answer) = Polled ∷ []
-pollTells (poll.Refused number) = []
+abbrev pub poll_tells : PollOutcome → List Event
+poll_tells (poll.Answered answer) = Polled ∷ []
+poll_tells (poll.Refused number) = []
 
-abbrev pub replyTells : Settings → List ℕ → ReplyOutcome → List Event
-replyTells s bytes (reply.Taken purge) = accepted s bytes (messageType bytes)
-replyTells s bytes (reply.PassedOver number) = []
-replyTells s bytes (reply.Refused number) = []
+abbrev pub reply_tells : Settings → List ℕ → ReplyOutcome → List Event
+reply_tells s bytes (reply.Taken purge) = accepted s bytes (message_type bytes)
+reply_tells s bytes (reply.PassedOver number) = []
+reply_tells s bytes (reply.Refused number) = []
 
-abbrev pub resetTells : ResetOutcome → List Event
-resetTells (reset.Done purge) = Cleared ∷ []
-resetTells (reset.Refused number) = []
+abbrev pub reset_tells : ResetOutcome → List Event
+reset_tells (reset.Done purge) = Cleared ∷ []
+reset_tells (reset.Refused number) = []
 
 -- DEEDS: what one leaves of client, tables and generator, what it tells the history, and its number where it is refused.
 pub record Done : Type 0 where
@@ -111,39 +111,39 @@ pub record Done : Type 0 where
   pub tells : List Event
   pub refused : MaybeNumber
 
-abbrev pub replyRefused : ReplyOutcome → MaybeNumber
-replyRefused (reply.Taken purge) = None
-replyRefused (reply.PassedOver number) = None
-replyRefused (reply.Refused number) = Some number
+abbrev pub reply_refused : ReplyOutcome → MaybeNumber
+reply_refused (reply.Taken purge) = None
+reply_refused (reply.PassedOver number) = None
+reply_refused (reply.Refused number) = Some number
 
-abbrev pub byReply : Settings → List ℕ → Rand → Processed → Done
-byReply s bytes rand r = record {
+abbrev pub by_reply : Settings → List ℕ → Rand → Processed → Done
+by_reply s bytes rand r = record {
   client = r.client;
   tables = r.tables;
   rand = rand;
-  tells = replyTells s bytes r.outcome;
-  refused = replyRefused r.outcome;
+  tells = reply_tells s bytes r.outcome;
+  refused = reply_refused r.outcome;
 }
 
-abbrev pub resetRefused : ResetOutcome → MaybeNumber
-resetRefused (reset.Done purge) = None
-resetRefused (reset.Refused number) = Some number
+abbrev pub reset_refused : ResetOutcome → MaybeNumber
+reset_refused (reset.Done purge) = None
+reset_refused (reset.Refused number) = Some number
 
-abbrev pub byReset : Rand → WasReset → Done
-byReset rand r = record {
+abbrev pub by_reset : Rand → WasReset → Done
+by_reset rand r = record {
   client = r.client;
   tables = r.tables;
   rand = rand;
-  tells = resetTells r.outcome;
-  refused = resetRefused r.outcome;
+  tells = reset_tells r.outcome;
+  refused = reset_refused r.outcome;
 }
 
-abbrev pub handRefused : Outcome → MaybeNumber
-handRefused outcome.Done = None
-handRefused (outcome.Refused number) = Some number
+abbrev pub hand_refused : Outcome → MaybeNumber
+hand_refused outcome.Done = None
+hand_refused (outcome.Refused number) = Some number
 
-abbrev pub byHand : Client → Rand → Changed → Done
-byHand c rand r = record { client = c; tables = r.tables; rand = rand; tells = []; refused = handRefused r.outcome }
+abbrev pub by_hand : Client → Rand → Changed → Done
+by_hand c rand r = record { client = c; tables = r.tables; rand = rand; tells = []; refused = hand_refused r.outcome }
 
 -- WHAT A CALL COMES TO: it polls, into a buffer; it does a deed; or it merely answers. "one that does what a poll does counts as
 -- one, and one that merely answers about the client accepts no reply and may stand where only polls follow."
@@ -172,16 +172,16 @@ leaves p now Answers = record { client = p.client; tables = p.tables; rand = p.r
 
 -- What it tells the history.
 abbrev pub tells : CameTo → List Event
-tells (Polls buffer left) = pollTells left.polled.outcome
+tells (Polls buffer left) = poll_tells left.polled.outcome
 tells (Does deed left) = left.tells
 tells Answers = []
 
 -- Of a set of calls, and of creation's settings: each deed, and each call.
 module _ (k : Calls) (s : Settings) where
   abbrev pub done : Client → Tables → Rand → Instant → Deed → Done
-  done c t g now (Reply source bytes) = byReply s bytes g (k.process c t source bytes now)
-  done c t g now Reset = byReset g (k.reset c t)
-  done c t g now (ByHand m) = byHand c g (k.byHand m t)
+  done c t g now (Reply source bytes) = by_reply s bytes g (k.process c t source bytes now)
+  done c t g now Reset = by_reset g (k.reset c t)
+  done c t g now (ByHand m) = by_hand c g (k.by_hand m t)
 
   abbrev pub comes : Client → Tables → Rand → Instant → Call → CameTo
   comes c t g now (Poll buffer) = Polls buffer (k.poll c t g now buffer)
@@ -195,8 +195,8 @@ pub record Entry : Type 0 where
   pub step : ℕ
   pub call : Call
 
-abbrev pub momentAfter : Post → ℕ → Instant
-momentAfter p step = moment (plus p.now.millis step)
+abbrev pub moment_after : Post → ℕ → Instant
+moment_after p step = moment (plus p.now.millis step)
 
 module _ (k : Calls) (s : Settings) where
   -- What an entry adds to the moment, and to the age of an ACK: its step. A name of its own, as a call may come that adds
@@ -205,11 +205,11 @@ module _ (k : Calls) (s : Settings) where
   adds p e = e.step
 
   -- What its call comes to, on what the entry before left; and what it leaves to the next.
-  abbrev pub cameTo : Post → Entry → CameTo
-  cameTo p e = comes k s p.client p.tables p.rand (momentAfter p (adds p e)) e.call
+  abbrev pub came_to : Post → Entry → CameTo
+  came_to p e = comes k s p.client p.tables p.rand (moment_after p (adds p e)) e.call
 
   abbrev pub stepped : Post → Entry → Post
-  stepped p e = leaves p (momentAfter p (adds p e)) (cameTo p e)
+  stepped p e = leaves p (moment_after p (adds p e)) (came_to p e)
 
 -- THE HISTORY
 
@@ -234,17 +234,17 @@ noted Polled h = expired h
 noted (Acked lease given) h = Held lease 0 given
 noted Cleared h = NoAck
 
-abbrev pub notedAll : List Event → History → History
-notedAll [] h = h
-notedAll (v ∷ vs) h = notedAll vs (noted v h)
+abbrev pub noted_all : List Event → History → History
+noted_all [] h = h
+noted_all (v ∷ vs) h = noted_all vs (noted v h)
 
 abbrev pub is_held : History → Bool
 is_held NoAck = false
 is_held (Held lease age given) = true
 
-abbrev pub heldBy : History → Installed
-heldBy NoAck = nothing
-heldBy (Held lease age given) = given
+abbrev pub held_by : History → Installed
+held_by NoAck = nothing
+held_by (Held lease age given) = given
 
 -- "One is lost if its table held four others when an ACK was last to enter it; an ACK equal to the lease enters nothing, so
 -- what was lost before it stays lost." An ACK enters a table where what it gives there is not what the held one gives, none
@@ -253,17 +253,17 @@ pub record Lost : Type 0 where
   pub addr : Bool
   pub route : Bool
 
-unfoldable pub lostBy : Tables → Event → History → Lost → Lost
-lostBy t Polled h lost = lost
-lostBy t (Acked lease given) h lost = record {
-  addr = if sameCidr given.address (heldBy h).address then lost.addr else full (otherAddrs t);
-  route = if sameRouter given.router (heldBy h).router then lost.route else full (otherRoutes t);
+unfoldable pub lost_by : Tables → Event → History → Lost → Lost
+lost_by t Polled h lost = lost
+lost_by t (Acked lease given) h lost = record {
+  addr = if same_cidr given.address (held_by h).address then lost.addr else full (other_addrs t);
+  route = if same_router given.router (held_by h).router then lost.route else full (other_routes t);
 }
-lostBy t Cleared h lost = lost
+lost_by t Cleared h lost = lost
 
-abbrev pub lostAll : Tables → List Event → History → Lost → Lost
-lostAll t [] h lost = lost
-lostAll t (v ∷ vs) h lost = lostAll t vs (noted v h) (lostBy t v h lost)
+abbrev pub lost_all : Tables → List Event → History → Lost → Lost
+lost_all t [] h lost = lost
+lost_all t (v ∷ vs) h lost = lost_all t vs (noted v h) (lost_by t v h lost)
 
 -- THE RUN: the post, and what is kept beside it.
 pub record Run : Type 0 where
@@ -282,13 +282,13 @@ start client tables rand m = record {
 module _ (k : Calls) (s : Settings) where
   -- What the history is told of an entry, and the run after it.
   abbrev pub told : Post → Entry → List Event
-  told p e = tells (cameTo k s p e)
+  told p e = tells (came_to k s p e)
 
   abbrev pub next : Run → Entry → Run
   next r e = record {
     post = stepped k s r.post e;
-    history = notedAll (told r.post e) (older (adds k s r.post e) r.history);
-    lost = lostAll r.post.tables (told r.post e) (older (adds k s r.post e) r.history) r.lost;
+    history = noted_all (told r.post e) (older (adds k s r.post e) r.history);
+    lost = lost_all r.post.tables (told r.post e) (older (adds k s r.post e) r.history) r.lost;
   }
 
   -- What holds of each entry and the run before it.
@@ -305,16 +305,16 @@ abbrev pub later : ℕ → Since → Since
 later step never = never
 later step (since millis) = since (millis + step)
 
-abbrev pub isPolled : List Event → Bool
-isPolled [] = false
-isPolled (Polled ∷ vs) = true
-isPolled (Acked lease given ∷ vs) = isPolled vs
-isPolled (Cleared ∷ vs) = isPolled vs
+abbrev pub is_polled : List Event → Bool
+is_polled [] = false
+is_polled (Polled ∷ vs) = true
+is_polled (Acked lease given ∷ vs) = is_polled vs
+is_polled (Cleared ∷ vs) = is_polled vs
 
-abbrev pub inTime : Bool → Since → Type 0
-inTime true never = Unit {0}
-inTime true (since millis) = millis ≤ 2 ^ 30
-inTime false gap = Unit {0}
+abbrev pub in_time : Bool → Since → Type 0
+in_time true never = Unit {0}
+in_time true (since millis) = millis ≤ 2 ^ 30
+in_time false gap = Unit {0}
 
 abbrev pub counted : Bool → Since → Since
 counted true gap = since 0
@@ -323,16 +323,16 @@ counted false gap = gap
 abbrev pub Timely : Calls → Settings → Since → Run → List Entry → Type 0
 Timely k s gap r [] = Unit {0}
 Timely k s gap r (e ∷ es) =
-    inTime (isPolled (told k s r.post e)) (later (adds k s r.post e) gap)
-    × Timely k s (counted (isPolled (told k s r.post e)) (later (adds k s r.post e) gap)) (next k s r e) es
+    in_time (is_polled (told k s r.post e)) (later (adds k s r.post e) gap)
+    × Timely k s (counted (is_polled (told k s r.post e)) (later (adds k s r.post e) gap)) (next k s r e) es
 
 -- TABLES: "After every call the DHCP entries in the tables are exactly the held ACK's, less any lost."
-unfoldable pub unlessLost : {A : Type 0} → Bool → List A → List A
-unlessLost lost xs = if lost then [] else xs
+unfoldable pub unless_lost : {A : Type 0} → Bool → List A → List A
+unless_lost lost xs = if lost then [] else xs
 
 pub record Tabled (r : Run) : Type 0 where
-  pub addrs : dhcpAddrs r.post.tables ≡ unlessLost r.lost.addr (leasedAddrs (heldBy r.history).address)
-  pub routes : dhcpRoutes r.post.tables ≡ unlessLost r.lost.route (leasedRoutes (heldBy r.history).router)
+  pub addrs : dhcp_addrs r.post.tables ≡ unless_lost r.lost.addr (leased_addrs (held_by r.history).address)
+  pub routes : dhcp_routes r.post.tables ≡ unless_lost r.lost.route (leased_routes (held_by r.history).router)
 
 -- WAKING: "after each poll not refused the waking moment is the latest that will do".
 
@@ -352,14 +352,14 @@ abbrev pub Enough : ℕ → List ℕ → Type 0
 Enough n [] = Unit {0}
 Enough n (x ∷ xs) = n ≤ length (x ∷ xs)
 
-abbrev pub lengthIn : List ℕ → ℕ → ℕ
-lengthIn [] n = 0
-lengthIn (x ∷ xs) n = n
+abbrev pub length_in : List ℕ → ℕ → ℕ
+length_in [] n = 0
+length_in (x ∷ xs) n = n
 
 pub record Builds (n : ℕ) (buffer : List ℕ) (r : PolledInto) : Type 0 where
   pub answer : PollAnswer
   pub answered : r.polled.outcome ≡ poll.Answered answer
-  pub length : answer.length ≡ lengthIn buffer n
+  pub length : answer.length ≡ length_in buffer n
 
 module _ (k : Calls) (s : Settings) where
   -- What a list leaves.
@@ -375,14 +375,14 @@ module _ (k : Calls) (s : Settings) where
   -- "If only polls follow": polls, and calls that merely answer.
   abbrev pub OnlyPolls : Post → List Entry → Type 0
   OnlyPolls p [] = Unit {0}
-  OnlyPolls p (e ∷ es) = IfDoes (λ deed left. ⊥) (cameTo k s p e) × OnlyPolls (stepped k s p e) es
+  OnlyPolls p (e ∷ es) = IfDoes (λ deed left. ⊥) (came_to k s p e) × OnlyPolls (stepped k s p e) es
 
   -- "The first at W is the first there whose buffer is empty or long enough; later ones at W owe no message": none of the list
   -- is one. The list begins u after the poll, and W lies d after the poll.
   abbrev pub NoneAt : ℕ → ℕ → ℕ → Post → List Entry → Type 0
   NoneAt n d u p [] = Unit {0}
   NoneAt n d u p (e ∷ es) =
-      (u + adds k s p e ≡ d → IfPolls (λ buffer left. Enough n buffer → ⊥) (cameTo k s p e)) × NoneAt n d (u + adds k s p e) (stepped k s p e) es
+      (u + adds k s p e ≡ d → IfPolls (λ buffer left. Enough n buffer → ⊥) (came_to k s p e)) × NoneAt n d (u + adds k s p e) (stepped k s p e) es
 
   -- An entry that polls at W, after entries that only polled: with a buffer that is empty or long enough it is answered:
   -- with n, or with 0 where the buffer is empty. A message has at most MTU − 20 octets, the UDP header among them.
@@ -391,7 +391,7 @@ module _ (k : Calls) (s : Settings) where
     pub some : 0 < n
     pub most : n ≤ s.mtu - 20
     pub builds : (es : List Entry) → OnlyPolls p es → NoneAt n d 0 p es → (e : Entry) → total p es + adds k s (after p es) e ≡ d
-        → IfPolls (λ buffer left. Enough n buffer → Builds n buffer left) (cameTo k s (after p es) e)
+        → IfPolls (λ buffer left. Enough n buffer → Builds n buffer left) (came_to k s (after p es) e)
 
   -- p is what the poll left, and d is W − m, wrapped. "a poll comes before W if the steps since add up to less than W − m,
   -- wrapped, and at W if to exactly that; 24 hours on, W − m is 86,400,000."
@@ -399,13 +399,13 @@ module _ (k : Calls) (s : Settings) where
     pub ahead : 0 < d
     pub within : d ≤ day
     pub before : (es : List Entry) → OnlyPolls p es → (e : Entry) → total p es + adds k s (after p es) e < d
-        → IfPolls (Quiet (after p es)) (cameTo k s (after p es) e)
+        → IfPolls (Quiet (after p es)) (came_to k s (after p es) e)
     -- "the first at it, with a long enough buffer, builds a message, unless it lies 24 hours on"
     pub at : (d ≡ day → ⊥) → Owed p d
 
   -- LEASE: "After a poll not refused a lease is in force exactly if an ACK is held." It is in force in state Renewing.
   pub record AfterPoll (r : Run) (answer : PollAnswer) : Type 0 where
-    pub lease : hasLease r.post.client.session.state ≡ is_held r.history
+    pub lease : has_lease r.post.client.session.state ≡ is_held r.history
     pub wakes : Wakes r.post (gap answer.wake.millis r.post.now.millis)
 
   -- What is claimed of each entry.
@@ -413,34 +413,34 @@ module _ (k : Calls) (s : Settings) where
     pub tables : Tabled (next k s r e)
     pub polls : IfPolls
         (λ buffer left. (answer : PollAnswer) → left.polled.outcome ≡ poll.Answered answer → AfterPoll (next k s r e) answer)
-        (cameTo k s r.post e)
+        (came_to k s r.post e)
 
 -- NO LOCK-OUT, which is ours: demand 1 has numbered refusals, and a client that refused all would meet the above. From whole
 -- tables, a poll is refused by 8 alone, and only where its buffer is not empty and shorter than a message that any longer
 -- one gets; a reply and a reset never; a manual call for its prefix, its router or a full table alone.
-abbrev pub prefixIn : Manual → ℕ
-prefixIn (AddAddress address prefix) = prefix
-prefixIn (DropAddress address prefix) = prefix
-prefixIn (AddRoute network prefix router) = prefix
-prefixIn (DropRoute network prefix router) = prefix
+abbrev pub prefix_in : Manual → ℕ
+prefix_in (AddAddress address prefix) = prefix
+prefix_in (DropAddress address prefix) = prefix
+prefix_in (AddRoute network prefix router) = prefix
+prefix_in (DropRoute network prefix router) = prefix
 
 -- Whether 10 and 11 may refuse it.
-abbrev pub badRouter : Manual → Bool
-badRouter (AddAddress address prefix) = false
-badRouter (DropAddress address prefix) = false
-badRouter (AddRoute network prefix router) = not (unicast router)
-badRouter (DropRoute network prefix router) = false
+abbrev pub bad_router : Manual → Bool
+bad_router (AddAddress address prefix) = false
+bad_router (DropAddress address prefix) = false
+bad_router (AddRoute network prefix router) = not (unicast router)
+bad_router (DropRoute network prefix router) = false
 
-abbrev pub noRoom : Manual → Tables → Bool
-noRoom (AddAddress address prefix) t = full (addrsOf t.ip_addrs)
-noRoom (DropAddress address prefix) t = false
-noRoom (AddRoute network prefix router) t = full (routesOf t.routes)
-noRoom (DropRoute network prefix router) t = false
+abbrev pub no_room : Manual → Tables → Bool
+no_room (AddAddress address prefix) t = full (addrs_of t.ip_addrs)
+no_room (DropAddress address prefix) t = false
+no_room (AddRoute network prefix router) t = full (routes_of t.routes)
+no_room (DropRoute network prefix router) t = false
 
 pub data JustlyByHand (m : Manual) (t : Tables) : ℕ → Type 0 where
-  prefix-over : prefixFits (prefixIn m) ≡ false → JustlyByHand m t 9
-  router-bad : badRouter m ≡ true → JustlyByHand m t 10
-  table-full : noRoom m t ≡ true → JustlyByHand m t 11
+  prefix_over : prefix_fits (prefix_in m) ≡ false → JustlyByHand m t 9
+  router_bad : bad_router m ≡ true → JustlyByHand m t 10
+  table_full : no_room m t ≡ true → JustlyByHand m t 11
 
 module _ (k : Calls) (s : Settings) where
   -- What may refuse a deed, and by which number.
@@ -461,19 +461,19 @@ module _ (k : Calls) (s : Settings) where
   pub record Open (r : Run) (e : Entry) : Type 0 where
     pub polls : IfPolls
         (λ buffer left. (number : ℕ) → left.polled.outcome ≡ poll.Refused number
-        → TooShort r.post (momentAfter r.post (adds k s r.post e)) buffer number)
-        (cameTo k s r.post e)
+        → TooShort r.post (moment_after r.post (adds k s r.post e)) buffer number)
+        (came_to k s r.post e)
     pub deeds : IfDoes
-        (λ deed left. (number : ℕ) → left.refused ≡ Some number → Justly r.post (momentAfter r.post (adds k s r.post e)) deed number)
-        (cameTo k s r.post e)
+        (λ deed left. (number : ℕ) → left.refused ≡ Some number → Justly r.post (moment_after r.post (adds k s r.post e)) deed number)
+        (came_to k s r.post e)
 
 -- THE CLAIM, of a set of calls: whatever the settings that creation takes, the tables without DHCP entries, the generator, the
 -- moment, and the list within its premise.
 pub record Demand3 (k : Calls) : Type 0 where
   pub owed : (s : Settings) (ignoring : Bool) → (k.create s ignoring).outcome ≡ outcome.Done
-      → (t : Tables) → dhcpAddrs t ≡ [] → dhcpRoutes t ≡ [] → (rand : Rand) (m : ℕ) (es : List Entry)
+      → (t : Tables) → dhcp_addrs t ≡ [] → dhcp_routes t ≡ [] → (rand : Rand) (m : ℕ) (es : List Entry)
       → Timely k s never (start (k.create s ignoring).client t rand m) es
       → Throughout k s (After k s) (start (k.create s ignoring).client t rand m) es
-  pub no-lockout : (s : Settings) (ignoring : Bool) → (k.create s ignoring).outcome ≡ outcome.Done
-      → (t : Tables) → wholeTables t ≡ true → (rand : Rand) (m : ℕ) (es : List Entry)
+  pub no_lockout : (s : Settings) (ignoring : Bool) → (k.create s ignoring).outcome ≡ outcome.Done
+      → (t : Tables) → whole_tables t ≡ true → (rand : Rand) (m : ℕ) (es : List Entry)
       → Throughout k s (Open k s) (start (k.create s ignoring).client t rand m) es

@@ -6,19 +6,19 @@ use Rattle.clock.specs.Moments.{plus, earlier, moment}
 use Rattle.clock.specs.Clocks.{day}
 use Rattle.clock.specs.declared.instant.Instant.{Instant}
 use Rattle.clock.specs.declared.rand.Rand.{Rand}
-use Rattle.machine.specs.States.{hasLease}
-use Rattle.machine.specs.Decisions.{retryAt}
+use Rattle.machine.specs.States.{has_lease}
+use Rattle.machine.specs.Decisions.{next_retry}
 use Rattle.machine.specs.declared.state.ClientState.{ClientState}
 use Rattle.machine.specs.declared.state.ClientState.TheVariants.{Init, Discovering, Requesting, Renewing}
 use Rattle.tables.specs.Applied.{applied}
-use Rattle.tables.specs.Tables.{routesOf, routeTable}
+use Rattle.tables.specs.Tables.{routes_of, route_table}
 use Rattle.tables.specs.declared.route.Route.{Route}
 use Rattle.tables.specs.declared.tables.Tables.{Tables}
 use Rattle.tables.specs.declared.outcome.Outcome.TheVariants as outcome
 use Rattle.tables.specs.declared.manual.Changed.{Changed}
 use Rattle.lease.specs.Leases.{installed, nothing}
 use Rattle.client.specs.Taken.{holds, processed}
-use Rattle.client.specs.Polls.{PolledInto, refusedBy, passed_by, tooShort, polled}
+use Rattle.client.specs.Polls.{PolledInto, refused_by, passed_by, too_short, polled}
 use Rattle.client.specs.declared.client.Client.{Client}
 use Rattle.client.specs.declared.poll.PollOutcome.{PollOutcome}
 use Rattle.client.specs.declared.poll.PollOutcome.TheVariants.{Answered, Refused}
@@ -29,21 +29,21 @@ use Rattle.client.specs.declared.process.ReplyOutcome.TheVariants as reply
 use Rattle.client.specs.declared.reset.ResetOutcome.TheVariants as reset
 use Rattle.client.specs.declared.reset.WasReset.{WasReset}
 use Rattle.client.specs.Resets.{cleared}
-use Rattle.run.specs.Calls.{Manual, Calls, wakeOf, calls}
+use Rattle.run.specs.Calls.{Manual, Calls, wake_of, calls}
 
 -- Ours with one call changed: another poll, another way to take replies, another reset, other manual calls.
 abbrev pub of : (Client → Tables → Rand → Instant → List ℕ → PolledInto) → (Client → Tables → ℕ → List ℕ → Instant → Processed) → (Client → Tables → WasReset)
     → (Manual → Tables → Changed) → Calls
-of poll process reset byHand = record { create = calls.create; poll = poll; process = process; reset = reset; byHand = byHand }
+of poll process reset by_hand = record { create = calls.create; poll = poll; process = process; reset = reset; by_hand = by_hand }
 
 abbrev pub polling : (Client → Tables → Rand → Instant → List ℕ → PolledInto) → Calls
-polling poll = of poll calls.process calls.reset calls.byHand
+polling poll = of poll calls.process calls.reset calls.by_hand
 
 abbrev pub taking : (Client → Tables → ℕ → List ℕ → Instant → Processed) → Calls
-taking process = of calls.poll process calls.reset calls.byHand
+taking process = of calls.poll process calls.reset calls.by_hand
 
-abbrev ourPoll : Client → Tables → Rand → Instant → List ℕ → PolledInto
-ourPoll = polled
+abbrev our_poll : Client → Tables → Rand → Instant → List ℕ → PolledInto
+our_poll = polled
 
 -- What a poll leaves, but for its answer.
 abbrev pub answering : (PollOutcome → PollOutcome) → PolledInto → PolledInto
@@ -52,48 +52,48 @@ answering change r = record {
   buffer = r.buffer;
 }
 
-abbrev pub outcomeAt : Instant → PollOutcome → PollOutcome
-outcomeAt wake (Answered a) =
+abbrev pub outcome_at : Instant → PollOutcome → PollOutcome
+outcome_at wake (Answered a) =
     Answered (record { length = a.length; source = a.source; destination = a.destination; wake = wake; purge = a.purge })
-outcomeAt wake (Refused number) = Refused number
+outcome_at wake (Refused number) = Refused number
 
-abbrev pub wakingAt : Instant → PolledInto → PolledInto
-wakingAt wake = answering (outcomeAt wake)
+abbrev pub waking_at : Instant → PolledInto → PolledInto
+waking_at wake = answering (outcome_at wake)
 
 -- Wakes every 24 hours, whatever is open.
 abbrev pub daily : Calls
-daily = polling (λ c t g now buffer. wakingAt (moment (plus now.millis day)) (ourPoll c t g now buffer))
+daily = polling (λ c t g now buffer. waking_at (moment (plus now.millis day)) (our_poll c t g now buffer))
 
 -- Reports 8 before measuring the message: by the longest that there could be, and whether one is due or not.
 unfoldable pub unmeasured : Client → Tables → Rand → Instant → List ℕ → PolledInto
 unmeasured c t g now buffer =
-    if tooShort buffer (c.settings.mtu - 20) then refusedBy c t g buffer 8
-    else ourPoll c t g now buffer
+    if too_short buffer (c.settings.mtu - 20) then refused_by c t g buffer 8
+    else our_poll c t g now buffer
 
 abbrev pub hasty : Calls
 hasty = polling unmeasured
 
 -- Refuses every poll.
 abbrev pub refusing : Calls
-refusing = polling (λ c t g now buffer. refusedBy c t g buffer 8)
+refusing = polling (λ c t g now buffer. refused_by c t g buffer 8)
 
 -- Never wakes for expiry: in Renewing, the next Request is all that it wakes for.
-abbrev pub withoutExpiry : ClientState → Instant → Instant → Instant
-withoutExpiry Init now wake = wake
-withoutExpiry (Discovering s) now wake = wake
-withoutExpiry (Requesting s) now wake = wake
-withoutExpiry (Renewing s) now wake = moment (earlier (plus now.millis day) (retryAt s))
+abbrev pub without_expiry : ClientState → Instant → Instant → Instant
+without_expiry Init now wake = wake
+without_expiry (Discovering s) now wake = wake
+without_expiry (Requesting s) now wake = wake
+without_expiry (Renewing s) now wake = moment (earlier (plus now.millis day) (next_retry s))
 
 abbrev pub unexpiring : Calls
 unexpiring =
     polling (λ c t g now buffer.
-    wakingAt (withoutExpiry (ourPoll c t g now buffer).polled.client.session.state now (wakeOf (ourPoll c t g now buffer).polled.outcome))
-    (ourPoll c t g now buffer))
+    waking_at (without_expiry (our_poll c t g now buffer).polled.client.session.state now (wake_of (our_poll c t g now buffer).polled.outcome))
+    (our_poll c t g now buffer))
 
 -- Enters a lost entry again on an ACK equal to the lease: such an ACK does to the tables what it would without a lease. It is
 -- the reply that is taken while a lease is held and leaves the same one held.
-abbrev pub enteringAgain : Processed → Tables → Processed
-enteringAgain r t = record {
+abbrev pub entering_again : Processed → Tables → Processed
+entering_again r t = record {
   client = r.client;
   tables = (applied t (installed r.client.lease) nothing).tables;
   outcome = r.outcome;
@@ -104,26 +104,26 @@ is_taken (Taken purge) = true
 is_taken (PassedOver number) = false
 is_taken (reply.Refused number) = false
 
-abbrev pub leavesHeld : Client → Processed → Bool
-leavesHeld c r = is_taken r.outcome && (hasLease r.client.session.state && holds c.session.state c.lease r.client.lease)
+abbrev pub leaves_held : Client → Processed → Bool
+leaves_held c r = is_taken r.outcome && (has_lease r.client.session.state && holds c.session.state c.lease r.client.lease)
 
-unfoldable pub processedAgain : Client → Tables → ℕ → List ℕ → Instant → Processed
-processedAgain c t source bytes now =
-    if leavesHeld c (processed c t source bytes now) then enteringAgain (processed c t source bytes now) t
+unfoldable pub processed_again : Client → Tables → ℕ → List ℕ → Instant → Processed
+processed_again c t source bytes now =
+    if leaves_held c (processed c t source bytes now) then entering_again (processed c t source bytes now) t
     else processed c t source bytes now
 
 abbrev pub entering : Calls
-entering = taking processedAgain
+entering = taking processed_again
 
 -- Wakes every millisecond.
 abbrev pub restless : Calls
-restless = polling (λ c t g now buffer. wakingAt (moment (plus now.millis 1)) (ourPoll c t g now buffer))
+restless = polling (λ c t g now buffer. waking_at (moment (plus now.millis 1)) (our_poll c t g now buffer))
 
 -- Keeps a lease for ever, and does nothing while it has one.
 unfoldable pub keeping : Client → Tables → Rand → Instant → List ℕ → PolledInto
 keeping c t g now buffer =
-    if hasLease c.session.state then passed_by c t g buffer (moment (plus now.millis day))
-    else ourPoll c t g now buffer
+    if has_lease c.session.state then passed_by c t g buffer (moment (plus now.millis day))
+    else our_poll c t g now buffer
 
 abbrev pub clinging : Calls
 clinging = polling keeping
@@ -139,7 +139,7 @@ losing = taking (λ c t source bytes now. lose c t (processed c t source bytes n
 
 -- Takes a NAK and leaves the entries to its next poll.
 unfoldable pub linger : Tables → Processed → Processed
-linger t r = record { client = r.client; tables = if hasLease r.client.session.state then r.tables else t; outcome = r.outcome }
+linger t r = record { client = r.client; tables = if has_lease r.client.session.state then r.tables else t; outcome = r.outcome }
 
 abbrev pub lingering : Calls
 lingering = taking (λ c t source bytes now. linger t (processed c t source bytes now))
@@ -154,7 +154,7 @@ twice r = record {
   client = r.client;
   tables = record {
     ip_addrs = r.tables.ip_addrs;
-    routes = routeTable (double (routesOf r.tables.routes));
+    routes = route_table (double (routes_of r.tables.routes));
     config_generation = r.tables.config_generation;
   };
   outcome = r.outcome;
@@ -166,7 +166,7 @@ doubling = taking (λ c t source bytes now. twice (processed c t source bytes no
 -- Does nothing with an empty buffer, and asks to be polled at once.
 abbrev pub awaits : Client → Tables → Rand → Instant → List ℕ → PolledInto
 awaits c t g now [] = passed_by c t g [] now
-awaits c t g now (x ∷ xs) = ourPoll c t g now (x ∷ xs)
+awaits c t g now (x ∷ xs) = our_poll c t g now (x ∷ xs)
 
 abbrev pub awaiting : Calls
 awaiting = polling awaits
@@ -175,16 +175,16 @@ awaiting = polling awaits
 unfoldable pub hurry : Client → Tables → Rand → List ℕ → PolledInto → PollOutcome → PolledInto
 hurry c t g b r (Answered a) =
     if eqb a.length 0 then r
-    else if tooShort b (c.settings.mtu - 20) then refusedBy c t g b 8
+    else if too_short b (c.settings.mtu - 20) then refused_by c t g b 8
     else r
 hurry c t g b r (Refused number) = r
 
 abbrev pub hurrying : Calls
-hurrying = polling (λ c t g now b. hurry c t g b (ourPoll c t g now b) (ourPoll c t g now b).polled.outcome)
+hurrying = polling (λ c t g now b. hurry c t g b (our_poll c t g now b) (our_poll c t g now b).polled.outcome)
 
 -- Wipes the buffer that it is lent.
 abbrev pub wiping : Calls
-wiping = polling (λ c t g now b. record { polled = (ourPoll c t g now b).polled; buffer = [] })
+wiping = polling (λ c t g now b. record { polled = (our_poll c t g now b).polled; buffer = [] })
 
 -- Counts its polls in the generation of the tables.
 abbrev pub bumped : Tables → Tables
@@ -193,17 +193,17 @@ bumped t = record { ip_addrs = t.ip_addrs; routes = t.routes; config_generation 
 abbrev pub counting : Calls
 counting = polling (λ c t g now b. record {
   polled = record {
-    client = (ourPoll c t g now b).polled.client;
-    tables = bumped (ourPoll c t g now b).polled.tables;
-    rand = (ourPoll c t g now b).polled.rand;
-    outcome = (ourPoll c t g now b).polled.outcome;
+    client = (our_poll c t g now b).polled.client;
+    tables = bumped (our_poll c t g now b).polled.tables;
+    rand = (our_poll c t g now b).polled.rand;
+    outcome = (our_poll c t g now b).polled.outcome;
   };
-  buffer = (ourPoll c t g now b).buffer;
+  buffer = (our_poll c t g now b).buffer;
 })
 
 -- Wakes half a turn of the clock late.
 abbrev pub late : Calls
-late = polling (λ c t g now b. wakingAt (moment (plus (wakeOf (ourPoll c t g now b).polled.outcome).millis (2 ^ 31))) (ourPoll c t g now b))
+late = polling (λ c t g now b. waking_at (moment (plus (wake_of (our_poll c t g now b).polled.outcome).millis (2 ^ 31))) (our_poll c t g now b))
 
 -- Compares moments as plain numbers: wakes at the smaller one of its deadline and 24 hours on.
 unfoldable pub smaller : ℕ → ℕ → ℕ
@@ -211,7 +211,7 @@ smaller a b = if leb a b then a else b
 
 abbrev pub unwrapped : Calls
 unwrapped = polling (λ c t g now b.
-    wakingAt (moment (smaller (plus now.millis day) (wakeOf (ourPoll c t g now b).polled.outcome).millis)) (ourPoll c t g now b))
+    waking_at (moment (smaller (plus now.millis day) (wake_of (our_poll c t g now b).polled.outcome).millis)) (our_poll c t g now b))
 
 -- Answers a length where it builds nothing.
 abbrev pub boast : PollOutcome → PollOutcome
@@ -220,7 +220,7 @@ boast (Answered a) =
 boast (Refused number) = Refused number
 
 abbrev pub boasting : Calls
-boasting = polling (λ c t g now b. answering boast (ourPoll c t g now b))
+boasting = polling (λ c t g now b. answering boast (our_poll c t g now b))
 
 -- Refuses by 7 what ours refuses by 8.
 abbrev pub misnumber : PollOutcome → PollOutcome
@@ -228,12 +228,12 @@ misnumber (Answered a) = Answered a
 misnumber (Refused number) = Refused 7
 
 abbrev pub misnumbering : Calls
-misnumbering = polling (λ c t g now b. answering misnumber (ourPoll c t g now b))
+misnumbering = polling (λ c t g now b. answering misnumber (our_poll c t g now b))
 
 -- Refuses by 8 every buffer that is not empty.
 abbrev pub muzzle : Client → Tables → Rand → Instant → List ℕ → PolledInto
-muzzle c t g now [] = ourPoll c t g now []
-muzzle c t g now (x ∷ xs) = refusedBy c t g (x ∷ xs) 8
+muzzle c t g now [] = our_poll c t g now []
+muzzle c t g now (x ∷ xs) = refused_by c t g (x ∷ xs) 8
 
 abbrev pub muzzled : Calls
 muzzled = polling muzzle
@@ -243,7 +243,7 @@ abbrev pub deaf : Calls
 deaf = taking (λ c t source bytes now. record { client = c; tables = t; outcome = reply.Refused 9 })
 
 abbrev pub stubborn : Calls
-stubborn = of calls.poll calls.process (λ c t. record { client = c; tables = t; outcome = reset.Refused 9 }) calls.byHand
+stubborn = of calls.poll calls.process (λ c t. record { client = c; tables = t; outcome = reset.Refused 9 }) calls.by_hand
 
 abbrev pub rigid : ℕ → Calls
 rigid number = of calls.poll calls.process calls.reset (λ m t. record { tables = t; outcome = outcome.Refused number })

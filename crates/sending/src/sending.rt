@@ -1,6 +1,6 @@
 // A message that is due: its id, its fields and its endpoints, and the message written.
 ghost use Rattle.std.specs.Prelude.{◌≡◌, length};
-ghost use Rattle.sending.specs.Sendings.{draws, drawnFor, fields_of, renewsTo, endpointsOf, wrote, leftIn};
+ghost use Rattle.sending.specs.Sendings.{draws, drawn_for, fields_of, renews_to, endpoints_of, wrote, left_in};
 
 use clock::{Drawn32, Rand};
 use lease::DhcpLease;
@@ -16,7 +16,7 @@ const BROADCAST: u32 = 4294967295;
 
 // The id of a message, and the generator after it: a new one, or the one that the client has.
 pub fn drawn(id: u32, rand: Rand, sending: Sending) -> Drawn32
-    ensures { result ≡ drawnFor id rand sending }
+    ensures { result ≡ drawn_for id rand sending }
 {
     if draws(sending) {
         return rand.rand_u32();
@@ -37,7 +37,7 @@ fn draws(sending: Sending) -> bool
 
 // Where a message goes from and to.
 pub fn endpoints(lease: DhcpLease, sending: Sending) -> Endpoints
-    ensures { result ≡ endpointsOf lease sending }
+    ensures { result ≡ endpoints_of lease sending }
 {
     match sending {
         Sending::Discover(_) => Endpoints {
@@ -57,7 +57,7 @@ pub fn endpoints(lease: DhcpLease, sending: Sending) -> Endpoints
 
 // Where a Request of Renewing goes to.
 fn renews_to(rebinding: bool, server: u32) -> u32
-    ensures { result ≡ renewsTo rebinding server }
+    ensures { result ≡ renews_to rebinding server }
 {
     if rebinding {
         return BROADCAST;
@@ -105,7 +105,7 @@ pub fn write(
     sending: Sending,
     buf: &mut [u8],
 ) -> Answer
-    ensures { (result ≡ wrote settings lease id sending (length buf.old)) × (buf.new ≡ leftIn settings lease id sending buf.old) }
+    ensures { (result ≡ wrote settings lease id sending (length buf.old)) × (buf.new ≡ left_in settings lease id sending buf.old) }
 {
     let m = fields(settings, lease, id, sending);
     let ends = endpoints(lease, sending);

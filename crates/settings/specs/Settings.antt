@@ -3,24 +3,24 @@ use Rattle.std.specs.Prelude.{ℕ, ◌-◌, ◌≤◌, Bool, true, false, not, L
 use Rattle.choice.specs.Choice.{if◌then◌else◌}
 use Rattle.clock.specs.Durations.{duration}
 use Rattle.clock.specs.Durations as durations
-use Rattle.clock.specs.Waits.{standardWaits}
+use Rattle.clock.specs.Waits.{standard_waits}
 use Rattle.clock.specs.declared.duration.MaybeDuration.{MaybeDuration}
 use Rattle.clock.specs.declared.duration.MaybeDuration.TheVariants as time
 use Rattle.clock.specs.declared.waits.Waits.{Waits}
-use Rattle.octets.specs.Items.{wholeItems}
-use Rattle.octets.specs.Codes.{maskCode, routerCode, dnsCode, request}
+use Rattle.octets.specs.Items.{whole_items}
+use Rattle.octets.specs.Codes.{mask_code, router_code, dns_code, request}
 use Rattle.octets.specs.declared.number.MaybeNumber.{MaybeNumber}
 use Rattle.octets.specs.declared.number.MaybeNumber.TheVariants.{None, Some}
 use Rattle.message.specs.Messages.{message}
-use Rattle.message.specs.Written.{nameLimit, extraLimit, listFits}
+use Rattle.message.specs.Written.{name_limit, extra_limit, list_fits}
 use Rattle.message.specs.declared.message.Message.{Message}
 use Rattle.settings.specs.declared.settings.Settings.{Settings}
 use Rattle.settings.specs.declared.settings.Medium.{Medium}
 use Rattle.settings.specs.declared.settings.Medium.TheVariants.{Ethernet, Ip, Ieee802154}
 
 -- All zero.
-abbrev pub noSettings : Settings
-noSettings = record {
+abbrev pub no_settings : Settings
+no_settings = record {
   medium = Ethernet;
   mtu = 0;
   hardware = replicate 6 0;
@@ -36,32 +36,32 @@ noSettings = record {
   maximum = duration 0;
 }
 
-abbrev pub isEthernet : Medium → Bool
-isEthernet Ethernet = true
-isEthernet Ip = false
-isEthernet Ieee802154 = false
+abbrev pub is_ethernet : Medium → Bool
+is_ethernet Ethernet = true
+is_ethernet Ip = false
+is_ethernet Ieee802154 = false
 
 -- The name, the codes to request (by default 1, 3, 6; a list that is present may be empty), the extra options.
 abbrev pub name_of : Settings → List ℕ
 name_of s = take s.name_len s.name
 
 unfoldable pub list_of : Settings → List ℕ
-list_of s = if s.listed then take s.list_len s.list else (maskCode ∷ routerCode ∷ dnsCode ∷ [])
+list_of s = if s.listed then take s.list_len s.list else (mask_code ∷ router_code ∷ dns_code ∷ [])
 
-abbrev pub extraOf : Settings → List ℕ
-extraOf s = take s.extra_len s.extra
+abbrev pub extra_of : Settings → List ℕ
+extra_of s = take s.extra_len s.extra
 
 -- The maximum, if there is one.
-unfoldable pub maximumOf : Settings → MaybeDuration
-maximumOf s = if s.capped then time.Some s.maximum else time.None
+unfoldable pub maximum_of : Settings → MaybeDuration
+maximum_of s = if s.capped then time.Some s.maximum else time.None
 
 -- How long a client waits: document 01's waits, whatever the settings.
-abbrev pub waitsOf : Settings → Waits
-waitsOf s = standardWaits
+abbrev pub waits_of : Settings → Waits
+waits_of s = standard_waits
 
 -- The fields of a message of such a client: option 57 is MTU − 68, and there is an option 55.
-abbrev pub messageOf : Settings → ℕ → ℕ → ℕ → MaybeNumber → MaybeNumber → Message
-messageOf s kind id client requested server = record {
+abbrev pub message_of : Settings → ℕ → ℕ → ℕ → MaybeNumber → MaybeNumber → Message
+message_of s kind id client requested server = record {
   kind = kind;
   id = id;
   client = client;
@@ -75,42 +75,42 @@ messageOf s kind id client requested server = record {
 -- The longest message is a Request in Requesting, which has an option 50 and an option 54: 4 octets each, whatever they
 -- say.
 abbrev pub longest : Settings → Message
-longest s = messageOf s request 0 0 (Some 0) (Some 0)
+longest s = message_of s request 0 0 (Some 0) (Some 0)
 
-abbrev pub longestLength : Settings → ℕ
-longestLength s = length (message (longest s) (name_of s) (list_of s) (extraOf s))
+abbrev pub longest_length : Settings → ℕ
+longest_length s = length (message (longest s) (name_of s) (list_of s) (extra_of s))
 
 -- Whether there is a maximum over the longest duration.
-unfoldable pub overCap : Settings → Bool
-overCap s = if s.capped then ltb durations.longest s.maximum.millis else false
+unfoldable pub over_cap : Settings → Bool
+over_cap s = if s.capped then ltb durations.longest s.maximum.millis else false
 
 -- 5 extra options not whole items; 6 maximum over 1,073,741,824 ms; 7 longest message over MTU − 28.
-unfoldable pub sizeRefusal : Settings → MaybeNumber
-sizeRefusal s =
-    if not (wholeItems (extraOf s)) then Some 5
-    else if overCap s then Some 6
-    else if ltb (s.mtu - 28) (longestLength s) then Some 7
+unfoldable pub size_refusal : Settings → MaybeNumber
+size_refusal s =
+    if not (whole_items (extra_of s)) then Some 5
+    else if over_cap s then Some 6
+    else if ltb (s.mtu - 28) (longest_length s) then Some 7
     else None
 
 -- 3 name over 63 octets; 4 request list over 64; 5 extra options over 255 octets.
-unfoldable pub listsRefusal : Settings → MaybeNumber
-listsRefusal s =
-    if ltb nameLimit s.name_len then Some 3
-    else if not (listFits s.listed s.list_len) then Some 4
-    else if ltb extraLimit s.extra_len then Some 5
-    else sizeRefusal s
+unfoldable pub lists_refusal : Settings → MaybeNumber
+lists_refusal s =
+    if ltb name_limit s.name_len then Some 3
+    else if not (list_fits s.listed s.list_len) then Some 4
+    else if ltb extra_limit s.extra_len then Some 5
+    else size_refusal s
 
 -- The first of 1 to 7 that refuses settings: 1 medium not Ethernet; 2 MTU outside 576 to 1,500; then the above.
-unfoldable pub refusalOf : Settings → MaybeNumber
-refusalOf s =
-    if not (isEthernet s.medium) then Some 1
+unfoldable pub refusal_of : Settings → MaybeNumber
+refusal_of s =
+    if not (is_ethernet s.medium) then Some 1
     else if ltb s.mtu 576 then Some 2
     else if ltb 1500 s.mtu then Some 2
-    else listsRefusal s
+    else lists_refusal s
 
 -- For contracts within this crate, which no public one cites: settings whose counts are within their limits.
 pub record Counted (s : Settings) : Type 0 where
   pub mtu : 576 ≤ s.mtu
-  pub name : s.name_len ≤ nameLimit
-  pub list : listFits s.listed s.list_len ≡ true
-  pub extra : s.extra_len ≤ extraLimit
+  pub name : s.name_len ≤ name_limit
+  pub list : list_fits s.listed s.list_len ≡ true
+  pub extra : s.extra_len ≤ extra_limit

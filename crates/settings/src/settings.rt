@@ -1,9 +1,9 @@
 // What a client is created with, and numbers 1 to 7, which refuse it.
 ghost use Rattle.std.specs.Prelude.{◌≡◌, ◌+◌, ◌≤◌, ◌-◌, length};
-ghost use Rattle.settings.specs.Settings.{noSettings, isEthernet, messageOf, longestLength, maximumOf, name_of, list_of, extraOf, overCap, Counted, refusalOf, listsRefusal, sizeRefusal, waitsOf};
-ghost use Rattle.octets.specs.Items.{wholeItems};
-ghost use Rattle.message.specs.Messages.{nameOption};
-ghost use Rattle.message.specs.Written.{written, bufferAfter, listFits};
+ghost use Rattle.settings.specs.Settings.{no_settings, is_ethernet, message_of, longest_length, maximum_of, name_of, list_of, extra_of, over_cap, Counted, refusal_of, lists_refusal, size_refusal, waits_of};
+ghost use Rattle.octets.specs.Items.{whole_items};
+ghost use Rattle.message.specs.Messages.{name_option};
+ghost use Rattle.message.specs.Written.{written, buffer_after, list_fits};
 
 use clock::{Duration, MaybeDuration, Waits};
 use message::message::{EXTRA_LIMIT, LIST_LIMIT, NAME_LIMIT};
@@ -62,7 +62,7 @@ const DEFAULT_PARAMETER_REQUEST_LIST: [u8; 3] = [
 impl Settings {
     // All zero.
     pub fn zero() -> Settings
-        ensures { result ≡ noSettings }
+        ensures { result ≡ no_settings }
     {
         Settings {
             medium: Medium::Ethernet,
@@ -83,7 +83,7 @@ impl Settings {
 
     // The first of 1 to 7 that refuses these settings, or none.
     pub fn refusal(self) -> MaybeNumber
-        ensures { result ≡ refusalOf self }
+        ensures { result ≡ refusal_of self }
     {
         let medium = self.medium;
         if !medium.is_ethernet() {
@@ -101,7 +101,7 @@ impl Settings {
     // 3 to 7, of settings that 1 and 2 don't refuse.
     fn lists_refusal(self) -> MaybeNumber
         requires { 576 ≤ self.mtu }
-        ensures { result ≡ listsRefusal self }
+        ensures { result ≡ lists_refusal self }
     {
         if NAME_LIMIT < self.name_len {
             return MaybeNumber::Some(3);
@@ -117,7 +117,7 @@ impl Settings {
 
     // Whether the request list, if there is one, is within its limit.
     fn list_fits(self) -> bool
-        ensures { result ≡ listFits self.listed self.list_len }
+        ensures { result ≡ list_fits self.listed self.list_len }
     {
         if self.listed {
             return self.list_len <= LIST_LIMIT;
@@ -128,7 +128,7 @@ impl Settings {
     // The rest of 5, then 6 and 7, of settings whose counts are within their limits.
     fn size_refusal(self) -> MaybeNumber
         requires { Counted self }
-        ensures { result ≡ sizeRefusal self }
+        ensures { result ≡ size_refusal self }
     {
         if !self.has_whole_extra() {
             return MaybeNumber::Some(5);
@@ -144,7 +144,7 @@ impl Settings {
 
     // Whether the extra options are whole items; they are not read where there are none.
     fn has_whole_extra(self) -> bool
-        ensures { result ≡ wholeItems (extraOf self) }
+        ensures { result ≡ whole_items (extra_of self) }
     {
         if self.extra_len == 0 {
             return true;
@@ -156,7 +156,7 @@ impl Settings {
 
     // Whether there is a maximum that no duration reaches.
     fn is_over_cap(self) -> bool
-        ensures { result ≡ overCap self }
+        ensures { result ≡ over_cap self }
     {
         if self.capped {
             return Duration::MAX.millis < self.maximum.millis;
@@ -167,7 +167,7 @@ impl Settings {
     // The length of the longest message, a Request in Requesting: 269 octets, and what differs from client to client.
     fn longest_len(self) -> usize
         requires { Counted self }
-        ensures { result ≡ longestLength self }
+        ensures { result ≡ longest_length self }
     {
         269 + self.named_len() + self.asked_len() + self.extra_len
     }
@@ -175,7 +175,7 @@ impl Settings {
     // Of these, the octets of option 12, and of option 55.
     fn named_len(self) -> usize
         requires { Counted self }
-        ensures { (result ≡ length (nameOption (name_of self))) × (result ≤ 65) }
+        ensures { (result ≡ length (name_option (name_of self))) × (result ≤ 65) }
     {
         if self.name_len == 0 {
             return 0;
@@ -196,7 +196,7 @@ impl Settings {
     // Writes a message of a client with these settings as a datagram at the start of buf, or refuses by 3, 4, 5 or 8 and
     // writes nothing.
     pub fn write(self, m: Message, ends: Endpoints, buf: &mut [u8]) -> Answer
-        ensures { (result ≡ written m (name_of self) (list_of self) (extraOf self) (length buf.old)) × (buf.new ≡ bufferAfter ends self.offload m (name_of self) (list_of self) (extraOf self) buf.old) }
+        ensures { (result ≡ written m (name_of self) (list_of self) (extra_of self) (length buf.old)) × (buf.new ≡ buffer_after ends self.offload m (name_of self) (list_of self) (extra_of self) buf.old) }
     {
         let name = self.name;
         let n = self.name_len;
@@ -236,7 +236,7 @@ impl Settings {
         requested: MaybeNumber,
         server: MaybeNumber,
     ) -> Message
-        ensures { result ≡ messageOf self kind id client requested server }
+        ensures { result ≡ message_of self kind id client requested server }
     {
         let hardware = self.hardware;
         let size = self.longest_reply();
@@ -264,14 +264,14 @@ impl Settings {
 
     // How long a client with these settings waits.
     pub fn waits(self) -> Waits
-        ensures { result ≡ waitsOf self }
+        ensures { result ≡ waits_of self }
     {
         Waits::standard()
     }
 
     // The longest lease, if there is such a limit.
     pub fn longest_lease(self) -> MaybeDuration
-        ensures { result ≡ maximumOf self }
+        ensures { result ≡ maximum_of self }
     {
         if self.capped {
             let maximum = self.maximum;
@@ -283,7 +283,7 @@ impl Settings {
 
 impl Medium {
     fn is_ethernet(self) -> bool
-        ensures { result ≡ isEthernet self }
+        ensures { result ≡ is_ethernet self }
     {
         match self {
             Medium::Ethernet => true,

@@ -4,32 +4,32 @@ use Rattle.std.proofs.Common.{◌≡◌, ℕ, suc, ◌+◌, ◌-◌, ◌<◌, �
 use mathlib.Core.Option.{none, some}
 use lib.ListN.{get_elem?}
 use lib.Seq.{set-append_seam}
-use Rattle.octets.proofs.Runs.{take-most}
-use Rattle.tables.specs.Entries.{only, places, inPlaces, entered}
-use Rattle.tables.proofs.Lists.{only-takes, only-passes, only-append, entered-room, at-past, at_place}
+use Rattle.octets.proofs.Runs.{take_most}
+use Rattle.tables.specs.Entries.{only, places, in_places, entered}
+use Rattle.tables.proofs.Lists.{only_takes, only_passes, only_append, entered_room, at_past, at_place}
 
-set-seam : {A : Type 0} (m : ℕ) (z x : A) (xs : List A) → set (xs ++ replicate (suc m) z) (length xs) x ≡ (xs ++ (x ∷ [])) ++ replicate m z
-set-seam m z x xs = set-append_seam xs z (replicate m z) x ∙ sym (append_assoc xs (x ∷ []) (replicate m z))
+set_seam : {A : Type 0} (m : ℕ) (z x : A) (xs : List A) → set (xs ++ replicate (suc m) z) (length xs) x ≡ (xs ++ (x ∷ [])) ++ replicate m z
+set_seam m z x xs = set-append_seam xs z (replicate m z) x ∙ sym (append_assoc xs (x ∷ []) (replicate m z))
 
 -- one entry more, behind those that are there
-pub set_next : {A : Type 0} (z x : A) (xs : List A) → length xs < places → set (inPlaces z xs) (length xs) x ≡ inPlaces z (xs ++ (x ∷ []))
+pub set_next : {A : Type 0} (z x : A) (xs : List A) → length xs < places → set (in_places z xs) (length xs) x ≡ in_places z (xs ++ (x ∷ []))
 set_next z x xs h =
     let e₁ : places - length xs ≡ suc (places - suc (length xs)) = omega arith in
     let e₂ : places - length (xs ++ (x ∷ [])) ≡ places - suc (length xs) = simp length-append (omega arith) in
-    rw (e₁, e₂) (set-seam (places - suc (length xs)) z x xs)
+    rw (e₁, e₂) (set_seam (places - suc (length xs)) z x xs)
 
-pub one_more : {A : Type 0} (z x : A) (xs rows : List A) (n : ℕ) → rows ≡ inPlaces z xs → n ≡ length xs → n < places
-    → (set rows n x ≡ inPlaces z (entered xs (x ∷ []))) × (n + 1 ≡ length (entered xs (x ∷ [])))
+pub one_more : {A : Type 0} (z x : A) (xs rows : List A) (n : ℕ) → rows ≡ in_places z xs → n ≡ length xs → n < places
+    → (set rows n x ≡ in_places z (entered xs (x ∷ []))) × (n + 1 ≡ length (entered xs (x ∷ [])))
 one_more z x xs rows n e l h =
-    let room : entered xs (x ∷ []) ≡ xs ++ (x ∷ []) = entered-room xs (x ∷ []) (omega arith) in
+    let room : entered xs (x ∷ []) ≡ xs ++ (x ∷ []) = entered_room xs (x ∷ []) (omega arith) in
     (rw (e, l, room) (set_next z x xs (omega arith)), rw (l, room) (simp length-append (omega arith)))
 
 -- a count that says more than there are places counts them all
-pub length-in-use : {A : Type 0} (n m : ℕ) (rows : List A) → length rows ≡ places → n ≡ min m places → n ≡ length (take m rows)
-length-in-use n m rows h e = rw (length-take m rows, h) e
+pub length_in_use : {A : Type 0} (n m : ℕ) (rows : List A) → length rows ≡ places → n ≡ min m places → n ≡ length (take m rows)
+length_in_use n m rows h e = rw (length-take m rows, h) e
 
-pub in-used : {A B : Type 0} (f : List A → B) (n m : ℕ) (rows : List A) → length rows ≡ places → n ≡ min m places → f (take m rows) ≡ f (take n rows)
-in-used f n m rows h e = rw e (ap f (sym (take-most rows m places h)))
+pub in_used : {A B : Type 0} (f : List A → B) (n m : ℕ) (rows : List A) → length rows ≡ places → n ≡ min m places → f (take m rows) ≡ f (take n rows)
+in_used f n m rows h e = rw e (ap f (sym (take_most rows m places h)))
 
 -- where a loop stands at entry i that takes those which pass a test
 pub record Taken {A : Type 0} (test : A → Bool) (z : A) (rows : List A) (n : ℕ) (kept : List A) (k i : ℕ) : Type 0 where
@@ -38,7 +38,7 @@ pub record Taken {A : Type 0} (test : A → Bool) (z : A) (rows : List A) (n : �
   pub within : i ≤ n
   pub less : k ≤ i
   pub count : k ≡ length (only test (take i rows))
-  pub array : kept ≡ inPlaces z (only test (take i rows))
+  pub array : kept ≡ in_places z (only test (take i rows))
 
 module _ {A : Type 0} (test : A → Bool) (z d : A) (rows : List A) (n : ℕ) where
   pub starts : length rows ≡ places → n ≤ places → Taken test z rows n (replicate places z) 0 0
@@ -49,25 +49,25 @@ module _ {A : Type 0} (test : A → Bool) (z d : A) (rows : List A) (n : ℕ) wh
     more : only test (take (i + 1) rows) ≡ only test (take i rows) ++ only test (get_or rows i d ∷ [])
     more =
         let one_more : take (i + 1) rows ≡ take i rows ++ (get_or rows i d ∷ []) = rw add-one (take-suc rows i d (omega arith)) in
-        ap (only test) one_more ∙ only-append test (take i rows) (get_or rows i d ∷ [])
+        ap (only test) one_more ∙ only_append test (take i rows) (get_or rows i d ∷ [])
 
     pub passes : test (get_or rows i d) ≡ false → Taken test z rows n kept k (i + 1)
     unfolding only
     passes m =
-        let same : only test (take (i + 1) rows) ≡ only test (take i rows) = more ∙ simp (only-passes test (get_or rows i d) [] m, append-nil) in
+        let same : only test (take (i + 1) rows) ≡ only test (take i rows) = more ∙ simp (only_passes test (get_or rows i d) [] m, append-nil) in
         record {
           long = t.long;
           few = t.few;
           within = omega arith;
           less = omega arith;
           count = t.count ∙ ap length (sym same);
-          array = t.array ∙ ap (inPlaces z) (sym same);
+          array = t.array ∙ ap (in_places z) (sym same);
         }
 
     pub takes : test (get_or rows i d) ≡ true → Taken test z rows n (set kept k (get_or rows i d)) (k + 1) (i + 1)
     unfolding only
     takes m =
-        let grown : only test (take (i + 1) rows) ≡ only test (take i rows) ++ (get_or rows i d ∷ []) = more ∙ simp (only-takes test (get_or rows i d) [] m) in
+        let grown : only test (take (i + 1) rows) ≡ only test (take i rows) ++ (get_or rows i d ∷ []) = more ∙ simp (only_takes test (get_or rows i d) [] m) in
         record {
           long = t.long;
           few = t.few;
@@ -78,12 +78,12 @@ module _ {A : Type 0} (test : A → Bool) (z d : A) (rows : List A) (n : ℕ) wh
         }
 
   -- at the end, for the count that the entries in use were told by
-  pub taken-all : (m : ℕ) (kept : List A) (k i : ℕ) → Taken test z rows n kept k i → n ≤ i → n ≡ min m places
-      → (kept ≡ inPlaces z (only test (take m rows))) × (k ≡ length (only test (take m rows)))
-  taken-all m kept k i t h e =
+  pub taken_all : (m : ℕ) (kept : List A) (k i : ℕ) → Taken test z rows n kept k i → n ≤ i → n ≡ min m places
+      → (kept ≡ in_places z (only test (take m rows))) × (k ≡ length (only test (take m rows)))
+  taken_all m kept k i t h e =
       let last : i ≡ min m places = omega (arith, t.within) in
-      let used : only test (take i rows) ≡ only test (take m rows) = rw last (ap (only test) (take-most rows m places t.long)) in
-      (t.array ∙ ap (inPlaces z) used, t.count ∙ ap length used)
+      let used : only test (take i rows) ≡ only test (take m rows) = rw last (ap (only test) (take_most rows m places t.long)) in
+      (t.array ∙ ap (in_places z) used, t.count ∙ ap length used)
 
 -- where a loop stands at entry i whose answer f over the entries in use is the one over those still to come
 pub record Sought {A B : Type 0} (f : List A → B) (rows : List A) (n i : ℕ) : Type 0 where
@@ -93,8 +93,8 @@ pub record Sought {A B : Type 0} (f : List A → B) (rows : List A) (n i : ℕ) 
   pub rest : f (take n rows) ≡ f (drop i (take n rows))
 
 module _ {A B : Type 0} (f : List A → B) (d : A) (rows : List A) (n : ℕ) where
-  pub sets-out : length rows ≡ places → n ≤ places → Sought f rows n 0
-  sets-out l h = record { long = l; few = h; within = omega arith; rest = refl }
+  pub sets_out : length rows ≡ places → n ≤ places → Sought f rows n 0
+  sets_out l h = record { long = l; few = h; within = omega arith; rest = refl }
 
   pub ended : (i : ℕ) → Sought f rows n i → n ≤ i → f (take n rows) ≡ f []
   ended i s h =
@@ -115,8 +115,8 @@ module _ {A B : Type 0} (f : List A → B) (d : A) (rows : List A) (n : ℕ) whe
 
 -- an entry of those in use, told by its place
 module _ {A : Type 0} (n m i : ℕ) (rows : List A) (h : length rows ≡ places) (e : n ≡ min m places) where
-  pub past-use : n ≤ i → get_elem? (take m rows) i ≡ none
-  past-use l = at-past (take m rows) i (omega (arith, length-in-use n m rows h e))
+  pub past_use : n ≤ i → get_elem? (take m rows) i ≡ none
+  past_use l = at_past (take m rows) i (omega (arith, length_in_use n m rows h e))
 
-  pub within-use : (d : A) → i < n → get_elem? (take m rows) i ≡ some (get_or rows i d)
-  within-use d l = at_place (take m rows) i d (omega (arith, length-in-use n m rows h e)) ∙ ap some (get_or-take m rows i d (omega arith))
+  pub within_use : (d : A) → i < n → get_elem? (take m rows) i ≡ some (get_or rows i d)
+  within_use d l = at_place (take m rows) i d (omega (arith, length_in_use n m rows h e)) ∙ ap some (get_or-take m rows i d (omega arith))

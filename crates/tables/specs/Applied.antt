@@ -6,7 +6,7 @@ use Rattle.choice.specs.Choice.{if◌then◌else◌}
 use Rattle.octets.specs.declared.number.MaybeNumber.{MaybeNumber}
 use Rattle.octets.specs.declared.number.MaybeNumber.TheVariants.{None, Some}
 use Rattle.tables.specs.Entries.{only, entered}
-use Rattle.tables.specs.Tables.{addrTable, routeTable, addrsOf, routesOf, addrIsManual, routeIsManual}
+use Rattle.tables.specs.Tables.{addr_table, route_table, addrs_of, routes_of, addr_is_manual, route_is_manual}
 use Rattle.tables.specs.declared.address.IfaceAddr.{IfaceAddr}
 use Rattle.tables.specs.declared.address.AddrTable.{AddrTable}
 use Rattle.tables.specs.declared.route.Route.{Route}
@@ -18,52 +18,52 @@ use Rattle.tables.specs.declared.apply.Installed.{Installed}
 use Rattle.tables.specs.declared.apply.Applied.{Applied}
 
 -- Whether an address with its prefix is the same before and after; none counts as a value.
-abbrev pub sameCidr : MaybeCidr → MaybeCidr → Bool
-sameCidr Absent Absent = true
-sameCidr Absent (Cidr b q) = false
-sameCidr (Cidr a p) Absent = false
-sameCidr (Cidr a p) (Cidr b q) = a == b && p == q
+abbrev pub same_cidr : MaybeCidr → MaybeCidr → Bool
+same_cidr Absent Absent = true
+same_cidr Absent (Cidr b q) = false
+same_cidr (Cidr a p) Absent = false
+same_cidr (Cidr a p) (Cidr b q) = a == b && p == q
 
 -- The same of a router.
-abbrev pub sameRouter : MaybeNumber → MaybeNumber → Bool
-sameRouter None None = true
-sameRouter None (Some b) = false
-sameRouter (Some a) None = false
-sameRouter (Some a) (Some b) = a == b
+abbrev pub same_router : MaybeNumber → MaybeNumber → Bool
+same_router None None = true
+same_router None (Some b) = false
+same_router (Some a) None = false
+same_router (Some a) (Some b) = a == b
 
 -- What a lease enters: its address, and the default route by its router, which is unicast: `router` of wire gives no other.
-abbrev pub leasedAddr : ℕ → ℕ → IfaceAddr
-leasedAddr address prefix = record { address = address; prefix = prefix; dhcp = true }
+abbrev pub leased_addr : ℕ → ℕ → IfaceAddr
+leased_addr address prefix = record { address = address; prefix = prefix; dhcp = true }
 
-abbrev pub leasedAddrs : MaybeCidr → List IfaceAddr
-leasedAddrs Absent = []
-leasedAddrs (Cidr address prefix) = leasedAddr address prefix ∷ []
+abbrev pub leased_addrs : MaybeCidr → List IfaceAddr
+leased_addrs Absent = []
+leased_addrs (Cidr address prefix) = leased_addr address prefix ∷ []
 
-abbrev pub defaultRoute : ℕ → Route
-defaultRoute router = record { network = 0; prefix = 0; router = router; dhcp = true }
+abbrev pub default_route : ℕ → Route
+default_route router = record { network = 0; prefix = 0; router = router; dhcp = true }
 
-abbrev pub leasedRoutes : MaybeNumber → List Route
-leasedRoutes None = []
-leasedRoutes (Some router) = defaultRoute router ∷ []
+abbrev pub leased_routes : MaybeNumber → List Route
+leased_routes None = []
+leased_routes (Some router) = default_route router ∷ []
 
 -- A table after it: DHCP's entries are out, and the new one is last, if there is room; as it is where the value is the
 -- same.
-unfoldable pub appliedAddrs : AddrTable → MaybeCidr → Bool → AddrTable
-appliedAddrs t new same = if same then t else addrTable (entered (only addrIsManual (addrsOf t)) (leasedAddrs new))
+unfoldable pub applied_addrs : AddrTable → MaybeCidr → Bool → AddrTable
+applied_addrs t new same = if same then t else addr_table (entered (only addr_is_manual (addrs_of t)) (leased_addrs new))
 
-unfoldable pub appliedRoutes : RouteTable → MaybeNumber → Bool → RouteTable
-appliedRoutes t new same = if same then t else routeTable (entered (only routeIsManual (routesOf t)) (leasedRoutes new))
+unfoldable pub applied_routes : RouteTable → MaybeNumber → Bool → RouteTable
+applied_routes t new same = if same then t else route_table (entered (only route_is_manual (routes_of t)) (leased_routes new))
 
-abbrev pub nextGeneration : ℕ → ℕ
-nextGeneration n = (n + 1) % 2 ^ 32
+abbrev pub next_generation : ℕ → ℕ
+next_generation n = (n + 1) % 2 ^ 32
 
 -- Purging follows the lease's address and prefix, and not the table: a lost address counts too.
 abbrev pub applied : Tables → Installed → Installed → Applied
 applied t new old = record {
   tables = record {
-    ip_addrs = appliedAddrs t.ip_addrs new.address (sameCidr new.address old.address);
-    routes = appliedRoutes t.routes new.router (sameRouter new.router old.router);
-    config_generation = nextGeneration t.config_generation;
+    ip_addrs = applied_addrs t.ip_addrs new.address (same_cidr new.address old.address);
+    routes = applied_routes t.routes new.router (same_router new.router old.router);
+    config_generation = next_generation t.config_generation;
   };
-  purge = not (sameCidr new.address old.address);
+  purge = not (same_cidr new.address old.address);
 }

@@ -28,17 +28,17 @@ abbrev pub places : ℕ
 places = 4
 
 -- The places of a table with these entries: in order from the first, and what is all zero in the others.
-abbrev pub inPlaces : {A : Type 0} → A → List A → List A
-inPlaces zeros xs = xs ++ replicate (places - length xs) zeros
+abbrev pub in_places : {A : Type 0} → A → List A → List A
+in_places zeros xs = xs ++ replicate (places - length xs) zeros
 
 -- Whether there is no place left.
 abbrev pub full : {A : Type 0} → List A → Bool
 full xs = nat_le places (length xs)
 
 -- What a table with these others takes of a new entry: a full one loses it.
-unfoldable pub lessLost : {A : Type 0} → List A → List A → List A
-lessLost others new = if full others then [] else new
+unfoldable pub less_lost : {A : Type 0} → List A → List A → List A
+less_lost others new = if full others then [] else new
 
 -- The others, and the new entry behind them, unless it is lost.
 abbrev pub entered : {A : Type 0} → List A → List A → List A
-entered others new = others ++ lessLost others new
+entered others new = others ++ less_lost others new

@@ -4,7 +4,7 @@ use Rattle.std.proofs.Math.Option.{Option, none, some}
 use Rattle.std.proofs.Math.ListN.{get_elem?}
 use Rattle.choice.specs.Choice.{if◌then◌else◌}
 use Rattle.tables.specs.Entries.{any, first}
-use Rattle.tables.specs.Tables.{addrsOf, routesOf, wholeTables}
+use Rattle.tables.specs.Tables.{addrs_of, routes_of, whole_tables}
 use Rattle.tables.specs.declared.address.IfaceAddr.{IfaceAddr}
 use Rattle.tables.specs.declared.route.Route.{Route}
 use Rattle.tables.specs.declared.tables.Tables.{Tables}
@@ -18,41 +18,41 @@ use Rattle.tables.specs.declared.lookup.Has.{Has}
 use Rattle.tables.specs.declared.lookup.Has.TheVariants as has
 
 -- How many entries are in use.
-unfoldable pub addrCount : Tables → Count
-addrCount t = if not (wholeTables t) then count.Refused 9 else count.Entries (length (addrsOf t.ip_addrs))
+unfoldable pub addr_count : Tables → Count
+addr_count t = if not (whole_tables t) then count.Refused 9 else count.Entries (length (addrs_of t.ip_addrs))
 
-unfoldable pub routeCount : Tables → Count
-routeCount t = if not (wholeTables t) then count.Refused 9 else count.Entries (length (routesOf t.routes))
+unfoldable pub route_count : Tables → Count
+route_count t = if not (whole_tables t) then count.Refused 9 else count.Entries (length (routes_of t.routes))
 
 -- An entry, or that there is none.
-abbrev pub addrOr : Option IfaceAddr → AddrAt
-addrOr none = addr.Absent
-addrOr (some a) = addr.Entry a
+abbrev pub addr_or : Option IfaceAddr → AddrAt
+addr_or none = addr.Absent
+addr_or (some a) = addr.Entry a
 
-abbrev pub routeOr : Option Route → RouteAt
-routeOr none = route.Absent
-routeOr (some a) = route.Entry a
+abbrev pub route_or : Option Route → RouteAt
+route_or none = route.Absent
+route_or (some a) = route.Entry a
 
 -- The entry at a place, counted from 0.
-unfoldable pub addrAt : Tables → ℕ → AddrAt
-addrAt t place = if not (wholeTables t) then addr.Refused 9 else addrOr (get_elem? (addrsOf t.ip_addrs) place)
+unfoldable pub addr_at : Tables → ℕ → AddrAt
+addr_at t place = if not (whole_tables t) then addr.Refused 9 else addr_or (get_elem? (addrs_of t.ip_addrs) place)
 
-unfoldable pub routeAt : Tables → ℕ → RouteAt
-routeAt t place = if not (wholeTables t) then route.Refused 9 else routeOr (get_elem? (routesOf t.routes) place)
+unfoldable pub route_at : Tables → ℕ → RouteAt
+route_at t place = if not (whole_tables t) then route.Refused 9 else route_or (get_elem? (routes_of t.routes) place)
 
 -- Whether an address is there, whatever its prefix and origin.
 abbrev pub is_at : ℕ → IfaceAddr → Bool
 is_at address a = a.address == address
 
-unfoldable pub hasAddr : Tables → ℕ → Has
-hasAddr t address =
-    if not (wholeTables t) then has.Refused 9
-    else if any (is_at address) (addrsOf t.ip_addrs) then has.Yes
+unfoldable pub has_addr : Tables → ℕ → Has
+has_addr t address =
+    if not (whole_tables t) then has.Refused 9
+    else if any (is_at address) (addrs_of t.ip_addrs) then has.Yes
     else has.No
 
 -- The default route: the first to 0.0.0.0/0, by hand or DHCP's.
 abbrev pub is_default : Route → Bool
 is_default a = a.network == 0 && a.prefix == 0
 
-unfoldable pub defaultRouteOf : Tables → RouteAt
-defaultRouteOf t = if not (wholeTables t) then route.Refused 9 else routeOr (first is_default (routesOf t.routes))
+unfoldable pub default_route_of : Tables → RouteAt
+default_route_of t = if not (whole_tables t) then route.Refused 9 else route_or (first is_default (routes_of t.routes))

@@ -5,7 +5,7 @@ use Rattle.std.specs.Prelude.{ℕ, Bool, false, not, ◌&&◌, ◌||◌, List, [
 use Rattle.choice.specs.Choice.{if◌then◌else◌}
 use Rattle.octets.specs.Addresses.{unicast}
 use Rattle.tables.specs.Entries.{only, full}
-use Rattle.tables.specs.Tables.{addrTable, routeTable, addrsOf, routesOf, prefixFits, wholeTables}
+use Rattle.tables.specs.Tables.{addr_table, route_table, addrs_of, routes_of, prefix_fits, whole_tables}
 use Rattle.tables.specs.declared.address.IfaceAddr.{IfaceAddr}
 use Rattle.tables.specs.declared.route.Route.{Route}
 use Rattle.tables.specs.declared.address.AddrTable.{AddrTable}
@@ -25,56 +25,56 @@ changed t addrs routes = record {
   outcome = Done;
 }
 
-abbrev pub changedAddrs : Tables → List IfaceAddr → Changed
-changedAddrs t xs = changed t (addrTable xs) t.routes
+abbrev pub changed_addrs : Tables → List IfaceAddr → Changed
+changed_addrs t xs = changed t (addr_table xs) t.routes
 
-abbrev pub changedRoutes : Tables → List Route → Changed
-changedRoutes t xs = changed t t.ip_addrs (routeTable xs)
+abbrev pub changed_routes : Tables → List Route → Changed
+changed_routes t xs = changed t t.ip_addrs (route_table xs)
 
 -- An entry put in by hand.
-abbrev pub manualAddr : ℕ → ℕ → IfaceAddr
-manualAddr address prefix = record { address = address; prefix = prefix; dhcp = false }
+abbrev pub manual_addr : ℕ → ℕ → IfaceAddr
+manual_addr address prefix = record { address = address; prefix = prefix; dhcp = false }
 
-abbrev pub manualRoute : ℕ → ℕ → ℕ → Route
-manualRoute network prefix router = record { network = network; prefix = prefix; router = router; dhcp = false }
+abbrev pub manual_route : ℕ → ℕ → ℕ → Route
+manual_route network prefix router = record { network = network; prefix = prefix; router = router; dhcp = false }
 
 -- Whether an entry is one that a drop names.
-abbrev pub addrMatches : ℕ → ℕ → IfaceAddr → Bool
-addrMatches address prefix a = a.address == address && a.prefix == prefix
+abbrev pub addr_matches : ℕ → ℕ → IfaceAddr → Bool
+addr_matches address prefix a = a.address == address && a.prefix == prefix
 
-abbrev pub routeMatches : ℕ → ℕ → ℕ → Route → Bool
-routeMatches network prefix router a = (a.network == network && a.prefix == prefix) && a.router == router
+abbrev pub route_matches : ℕ → ℕ → ℕ → Route → Bool
+route_matches network prefix router a = (a.network == network && a.prefix == prefix) && a.router == router
 
 -- What a drop leaves: DHCP's entries, and the others that it does not name.
-abbrev pub addrStays : ℕ → ℕ → IfaceAddr → Bool
-addrStays address prefix a = a.dhcp || not (addrMatches address prefix a)
+abbrev pub addr_stays : ℕ → ℕ → IfaceAddr → Bool
+addr_stays address prefix a = a.dhcp || not (addr_matches address prefix a)
 
-abbrev pub routeStays : ℕ → ℕ → ℕ → Route → Bool
-routeStays network prefix router a = a.dhcp || not (routeMatches network prefix router a)
+abbrev pub route_stays : ℕ → ℕ → ℕ → Route → Bool
+route_stays network prefix router a = a.dhcp || not (route_matches network prefix router a)
 
 -- What every manual call tests first.
 unfoldable pub admitted : Tables → ℕ → Bool
-admitted t prefix = if wholeTables t then prefixFits prefix else false
+admitted t prefix = if whole_tables t then prefix_fits prefix else false
 
-unfoldable pub addAddress : Tables → ℕ → ℕ → Changed
-addAddress t address prefix =
+unfoldable pub add_address : Tables → ℕ → ℕ → Changed
+add_address t address prefix =
     if not (admitted t prefix) then refused t 9
-    else if full (addrsOf t.ip_addrs) then refused t 11
-    else changedAddrs t (addrsOf t.ip_addrs ++ (manualAddr address prefix ∷ []))
+    else if full (addrs_of t.ip_addrs) then refused t 11
+    else changed_addrs t (addrs_of t.ip_addrs ++ (manual_addr address prefix ∷ []))
 
-unfoldable pub dropAddress : Tables → ℕ → ℕ → Changed
-dropAddress t address prefix =
+unfoldable pub drop_address : Tables → ℕ → ℕ → Changed
+drop_address t address prefix =
     if not (admitted t prefix) then refused t 9
-    else changedAddrs t (only (addrStays address prefix) (addrsOf t.ip_addrs))
+    else changed_addrs t (only (addr_stays address prefix) (addrs_of t.ip_addrs))
 
-unfoldable pub addRoute : Tables → ℕ → ℕ → ℕ → Changed
-addRoute t network prefix router =
+unfoldable pub add_route : Tables → ℕ → ℕ → ℕ → Changed
+add_route t network prefix router =
     if not (admitted t prefix) then refused t 9
     else if not (unicast router) then refused t 10
-    else if full (routesOf t.routes) then refused t 11
-    else changedRoutes t (routesOf t.routes ++ (manualRoute network prefix router ∷ []))
+    else if full (routes_of t.routes) then refused t 11
+    else changed_routes t (routes_of t.routes ++ (manual_route network prefix router ∷ []))
 
-unfoldable pub dropRoute : Tables → ℕ → ℕ → ℕ → Changed
-dropRoute t network prefix router =
+unfoldable pub drop_route : Tables → ℕ → ℕ → ℕ → Changed
+drop_route t network prefix router =
     if not (admitted t prefix) then refused t 9
-    else changedRoutes t (only (routeStays network prefix router) (routesOf t.routes))
+    else changed_routes t (only (route_stays network prefix router) (routes_of t.routes))

@@ -1,7 +1,7 @@
 -- The tables: which entries are in use, which of them are DHCP's, and when tables are whole.
 use Rattle.std.specs.Prelude.{ℕ, Bool, false, not, List, [], length, take, nat_le}
 use Rattle.choice.specs.Choice.{if◌then◌else◌}
-use Rattle.tables.specs.Entries.{only, all, places, inPlaces}
+use Rattle.tables.specs.Entries.{only, all, places, in_places}
 use Rattle.tables.specs.declared.address.IfaceAddr.{IfaceAddr}
 use Rattle.tables.specs.declared.address.AddrTable.{AddrTable}
 use Rattle.tables.specs.declared.route.Route.{Route}
@@ -9,73 +9,73 @@ use Rattle.tables.specs.declared.route.RouteTable.{RouteTable}
 use Rattle.tables.specs.declared.tables.Tables.{Tables}
 
 -- What an unused place of a written table holds.
-abbrev pub zeroAddr : IfaceAddr
-zeroAddr = record { address = 0; prefix = 0; dhcp = false }
+abbrev pub zero_addr : IfaceAddr
+zero_addr = record { address = 0; prefix = 0; dhcp = false }
 
-abbrev pub zeroRoute : Route
-zeroRoute = record { network = 0; prefix = 0; router = 0; dhcp = false }
+abbrev pub zero_route : Route
+zero_route = record { network = 0; prefix = 0; router = 0; dhcp = false }
 
 -- The tables that hold these entries, and nothing else.
-abbrev pub addrTable : List IfaceAddr → AddrTable
-addrTable xs = record { entries = inPlaces zeroAddr xs; count = length xs }
+abbrev pub addr_table : List IfaceAddr → AddrTable
+addr_table xs = record { entries = in_places zero_addr xs; count = length xs }
 
-abbrev pub routeTable : List Route → RouteTable
-routeTable xs = record { entries = inPlaces zeroRoute xs; count = length xs }
+abbrev pub route_table : List Route → RouteTable
+route_table xs = record { entries = in_places zero_route xs; count = length xs }
 
 -- The entries in use.
-abbrev pub addrsOf : AddrTable → List IfaceAddr
-addrsOf t = take t.count t.entries
+abbrev pub addrs_of : AddrTable → List IfaceAddr
+addrs_of t = take t.count t.entries
 
-abbrev pub routesOf : RouteTable → List Route
-routesOf t = take t.count t.entries
+abbrev pub routes_of : RouteTable → List Route
+routes_of t = take t.count t.entries
 
 -- Whether an entry is DHCP's, or was put in by hand.
-abbrev pub addrIsDhcp : IfaceAddr → Bool
-addrIsDhcp a = a.dhcp
+abbrev pub addr_is_dhcp : IfaceAddr → Bool
+addr_is_dhcp a = a.dhcp
 
-abbrev pub addrIsManual : IfaceAddr → Bool
-addrIsManual a = not a.dhcp
+abbrev pub addr_is_manual : IfaceAddr → Bool
+addr_is_manual a = not a.dhcp
 
-abbrev pub routeIsDhcp : Route → Bool
-routeIsDhcp a = a.dhcp
+abbrev pub route_is_dhcp : Route → Bool
+route_is_dhcp a = a.dhcp
 
-abbrev pub routeIsManual : Route → Bool
-routeIsManual a = not a.dhcp
+abbrev pub route_is_manual : Route → Bool
+route_is_manual a = not a.dhcp
 
 -- DHCP's own entries, and the others, in their order.
-abbrev pub dhcpAddrs : Tables → List IfaceAddr
-dhcpAddrs t = only addrIsDhcp (addrsOf t.ip_addrs)
+abbrev pub dhcp_addrs : Tables → List IfaceAddr
+dhcp_addrs t = only addr_is_dhcp (addrs_of t.ip_addrs)
 
-abbrev pub otherAddrs : Tables → List IfaceAddr
-otherAddrs t = only addrIsManual (addrsOf t.ip_addrs)
+abbrev pub other_addrs : Tables → List IfaceAddr
+other_addrs t = only addr_is_manual (addrs_of t.ip_addrs)
 
-abbrev pub dhcpRoutes : Tables → List Route
-dhcpRoutes t = only routeIsDhcp (routesOf t.routes)
+abbrev pub dhcp_routes : Tables → List Route
+dhcp_routes t = only route_is_dhcp (routes_of t.routes)
 
-abbrev pub otherRoutes : Tables → List Route
-otherRoutes t = only routeIsManual (routesOf t.routes)
+abbrev pub other_routes : Tables → List Route
+other_routes t = only route_is_manual (routes_of t.routes)
 
 -- Tables without an entry, before the first change.
-abbrev pub emptyTables : Tables
-emptyTables = record { ip_addrs = addrTable []; routes = routeTable []; config_generation = 0 }
+abbrev pub empty_tables : Tables
+empty_tables = record { ip_addrs = addr_table []; routes = route_table []; config_generation = 0 }
 
 -- A prefix has at most 32 bits.
-abbrev pub prefixFits : ℕ → Bool
-prefixFits prefix = nat_le prefix 32
+abbrev pub prefix_fits : ℕ → Bool
+prefix_fits prefix = nat_le prefix 32
 
-abbrev pub addrFits : IfaceAddr → Bool
-addrFits a = prefixFits a.prefix
+abbrev pub addr_fits : IfaceAddr → Bool
+addr_fits a = prefix_fits a.prefix
 
-abbrev pub routeFits : Route → Bool
-routeFits a = prefixFits a.prefix
+abbrev pub route_fits : Route → Bool
+route_fits a = prefix_fits a.prefix
 
 -- Whether a table is whole: its count is not over its places, and no prefix of an entry in use is over 32.
-unfoldable pub wholeAddrs : AddrTable → Bool
-wholeAddrs t = if nat_le t.count places then all addrFits (addrsOf t) else false
+unfoldable pub whole_addrs : AddrTable → Bool
+whole_addrs t = if nat_le t.count places then all addr_fits (addrs_of t) else false
 
-unfoldable pub wholeRoutes : RouteTable → Bool
-wholeRoutes t = if nat_le t.count places then all routeFits (routesOf t) else false
+unfoldable pub whole_routes : RouteTable → Bool
+whole_routes t = if nat_le t.count places then all route_fits (routes_of t) else false
 
 -- Whether tables are whole.
-unfoldable pub wholeTables : Tables → Bool
-wholeTables t = if wholeAddrs t.ip_addrs then wholeRoutes t.routes else false
+unfoldable pub whole_tables : Tables → Bool
+whole_tables t = if whole_addrs t.ip_addrs then whole_routes t.routes else false

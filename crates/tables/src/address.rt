@@ -2,9 +2,9 @@
 ghost use Rattle.std.specs.Prelude.{◌≡◌, [], ◌∷◌, length};
 ghost use Rattle.std.proofs.Math.ListN.{get_elem?};
 ghost use Rattle.tables.specs.Entries.{only, entered, any};
-ghost use Rattle.tables.specs.Tables.{addrTable, addrsOf, wholeAddrs};
-ghost use Rattle.tables.specs.Changes.{addrKept};
-ghost use Rattle.tables.specs.Lookups.{addrOr, is_at};
+ghost use Rattle.tables.specs.Tables.{addr_table, addrs_of, whole_addrs};
+ghost use Rattle.tables.specs.Changes.{addr_kept};
+ghost use Rattle.tables.specs.Lookups.{addr_or, is_at};
 
 use crate::lookup::AddrAt;
 use crate::tables::{PLACES, PREFIX_LIMIT};
@@ -36,7 +36,7 @@ pub(crate) enum AddrsOut {
 impl IfaceAddr {
     // Whether the entry stays.
     fn stays(self, out: AddrsOut) -> bool
-        ensures { result ≡ addrKept out self }
+        ensures { result ≡ addr_kept out self }
     {
         match out {
             AddrsOut::Nothing => true,
@@ -51,7 +51,7 @@ impl IfaceAddr {
 impl AddrTable {
     // The table written anew: what stays, in its order, zeros after.
     pub(crate) fn kept(self, out: AddrsOut) -> AddrTable
-        ensures { result ≡ addrTable (only (addrKept out) (addrsOf self)) }
+        ensures { result ≡ addr_table (only (addr_kept out) (addrs_of self)) }
     {
         let entries = self.entries;
         let n = at_most(self.count, PLACES);
@@ -78,8 +78,8 @@ impl AddrTable {
 
     // A table just written anew with one entry more, if there is room.
     pub(crate) fn with(self, entry: IfaceAddr) -> AddrTable
-        requires { self ≡ addrTable (addrsOf self) }
-        ensures { result ≡ addrTable (entered (addrsOf self) (entry ∷ [])) }
+        requires { self ≡ addr_table (addrs_of self) }
+        ensures { result ≡ addr_table (entered (addrs_of self) (entry ∷ [])) }
     {
         let n = self.count;
         if PLACES <= n {
@@ -95,14 +95,14 @@ impl AddrTable {
 
     // How many entries are in use.
     pub(crate) fn len(self) -> usize
-        ensures { result ≡ length (addrsOf self) }
+        ensures { result ≡ length (addrs_of self) }
     {
         at_most(self.count, PLACES)
     }
 
     // The entry at a place, if that is in use.
     pub(crate) fn at(self, place: usize) -> AddrAt
-        ensures { result ≡ addrOr (get_elem? (addrsOf self) place) }
+        ensures { result ≡ addr_or (get_elem? (addrs_of self) place) }
     {
         let entries = self.entries;
         let n = at_most(self.count, PLACES);
@@ -114,7 +114,7 @@ impl AddrTable {
 
     // Whether the count is within the places, and the prefixes of the entries in use within 32.
     pub(crate) fn is_whole(self) -> bool
-        ensures { result ≡ wholeAddrs self }
+        ensures { result ≡ whole_addrs self }
     {
         let entries = self.entries;
         let n = self.count;
@@ -134,7 +134,7 @@ impl AddrTable {
 
     // Whether an address is among the entries in use.
     pub(crate) fn has(self, address: u32) -> bool
-        ensures { result ≡ any (is_at address) (addrsOf self) }
+        ensures { result ≡ any (is_at address) (addrs_of self) }
     {
         let entries = self.entries;
         let n = at_most(self.count, PLACES);

@@ -1,6 +1,6 @@
 // What a lease that comes, changes or goes does to the tables.
 ghost use Rattle.std.specs.Prelude.{◌≡◌};
-ghost use Rattle.tables.specs.Applied.{sameCidr, sameRouter, applied, appliedAddrs, appliedRoutes};
+ghost use Rattle.tables.specs.Applied.{same_cidr, same_router, applied, applied_addrs, applied_routes};
 
 use crate::address::{AddrTable, AddrsOut, IfaceAddr};
 use crate::route::{Route, RouteTable, RoutesOut};
@@ -59,7 +59,7 @@ impl Tables {
 impl AddrTable {
     // The table with the address of a lease in the place of DHCP's entries; as it is where that address is the same.
     fn leased(self, new: MaybeCidr, same: bool) -> AddrTable
-        ensures { result ≡ appliedAddrs self new same }
+        ensures { result ≡ applied_addrs self new same }
     {
         if same {
             return self;
@@ -80,7 +80,7 @@ impl RouteTable {
     // The table with a default route by a lease's router, which is unicast, in the place of DHCP's entries; as it is where
     // that router is the same.
     fn leased(self, new: MaybeNumber, same: bool) -> RouteTable
-        ensures { result ≡ appliedRoutes self new same }
+        ensures { result ≡ applied_routes self new same }
     {
         if same {
             return self;
@@ -100,7 +100,7 @@ impl RouteTable {
 
 // Whether two addresses and their prefixes are the same; none is a value of its own.
 fn same_cidr(a: MaybeCidr, b: MaybeCidr) -> bool
-    ensures { result ≡ sameCidr a b }
+    ensures { result ≡ same_cidr a b }
 {
     match a {
         MaybeCidr::Absent => match b {
@@ -119,7 +119,7 @@ fn same_cidr(a: MaybeCidr, b: MaybeCidr) -> bool
 
 // The same of two routers.
 pub fn same_router(a: MaybeNumber, b: MaybeNumber) -> bool
-    ensures { result ≡ sameRouter a b }
+    ensures { result ≡ same_router a b }
 {
     match a {
         MaybeNumber::None => match b {

@@ -1,6 +1,6 @@
 // Look-ups in the tables; 9 where these are not whole.
 ghost use Rattle.std.specs.Prelude.{◌≡◌};
-ghost use Rattle.tables.specs.Lookups.{addrCount, routeCount, addrAt, routeAt, hasAddr, defaultRouteOf};
+ghost use Rattle.tables.specs.Lookups.{addr_count, route_count, addr_at, route_at, has_addr, default_route_of};
 
 use crate::address::IfaceAddr;
 use crate::route::Route;
@@ -39,7 +39,7 @@ pub enum Has {
 impl Tables {
     // How many addresses there are.
     pub fn addr_count(self) -> Count
-        ensures { result ≡ addrCount self }
+        ensures { result ≡ addr_count self }
     {
         if !self.is_whole() {
             return Count::Refused(9);
@@ -50,7 +50,7 @@ impl Tables {
 
     // How many routes there are.
     pub fn route_count(self) -> Count
-        ensures { result ≡ routeCount self }
+        ensures { result ≡ route_count self }
     {
         if !self.is_whole() {
             return Count::Refused(9);
@@ -61,7 +61,7 @@ impl Tables {
 
     // The address at a place, counted from 0.
     pub fn addr_at(self, place: usize) -> AddrAt
-        ensures { result ≡ addrAt self place }
+        ensures { result ≡ addr_at self place }
     {
         if !self.is_whole() {
             return AddrAt::Refused(9);
@@ -72,7 +72,7 @@ impl Tables {
 
     // The route at a place, counted from 0.
     pub fn route_at(self, place: usize) -> RouteAt
-        ensures { result ≡ routeAt self place }
+        ensures { result ≡ route_at self place }
     {
         if !self.is_whole() {
             return RouteAt::Refused(9);
@@ -83,7 +83,7 @@ impl Tables {
 
     // Whether an address is there, with any prefix, by hand or DHCP's.
     pub fn has_ip_addr(self, address: u32) -> Has
-        ensures { result ≡ hasAddr self address }
+        ensures { result ≡ has_addr self address }
     {
         if !self.is_whole() {
             return Has::Refused(9);
@@ -97,7 +97,7 @@ impl Tables {
 
     // The first route to 0.0.0.0/0, with its router.
     pub fn default_ipv4_route(self) -> RouteAt
-        ensures { result ≡ defaultRouteOf self }
+        ensures { result ≡ default_route_of self }
     {
         if !self.is_whole() {
             return RouteAt::Refused(9);

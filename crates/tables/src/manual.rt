@@ -1,6 +1,6 @@
 // The manual calls. They never touch an entry of DHCP's, nor the generation.
 ghost use Rattle.std.specs.Prelude.{◌≡◌};
-ghost use Rattle.tables.specs.Manual.{refused, changed, admitted, addAddress, dropAddress, addRoute, dropRoute};
+ghost use Rattle.tables.specs.Manual.{refused, changed, admitted, add_address, drop_address, add_route, drop_route};
 
 use crate::address::{AddrTable, AddrsOut, IfaceAddr};
 use crate::outcome::Outcome;
@@ -17,7 +17,7 @@ pub struct Changed {
 impl Tables {
     // An address more, at the end.
     pub fn add_address(self, address: u32, prefix: u8) -> Changed
-        ensures { result ≡ addAddress self address prefix }
+        ensures { result ≡ add_address self address prefix }
     {
         if !self.admits(prefix) {
             return self.refused(9);
@@ -38,7 +38,7 @@ impl Tables {
 
     // Without the addresses put in by hand that have this address and prefix.
     pub fn drop_address(self, address: u32, prefix: u8) -> Changed
-        ensures { result ≡ dropAddress self address prefix }
+        ensures { result ≡ drop_address self address prefix }
     {
         if !self.admits(prefix) {
             return self.refused(9);
@@ -51,7 +51,7 @@ impl Tables {
 
     // A route more, at the end.
     pub fn add_route(self, network: u32, prefix: u8, router: u32) -> Changed
-        ensures { result ≡ addRoute self network prefix router }
+        ensures { result ≡ add_route self network prefix router }
     {
         if !self.admits(prefix) {
             return self.refused(9);
@@ -77,7 +77,7 @@ impl Tables {
 
     // Without the routes put in by hand that have this network, prefix and router.
     pub fn drop_route(self, network: u32, prefix: u8, router: u32) -> Changed
-        ensures { result ≡ dropRoute self network prefix router }
+        ensures { result ≡ drop_route self network prefix router }
     {
         if !self.admits(prefix) {
             return self.refused(9);

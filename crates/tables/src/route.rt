@@ -2,9 +2,9 @@
 ghost use Rattle.std.specs.Prelude.{◌≡◌, [], ◌∷◌, length};
 ghost use Rattle.std.proofs.Math.ListN.{get_elem?};
 ghost use Rattle.tables.specs.Entries.{only, entered, first};
-ghost use Rattle.tables.specs.Tables.{routeTable, routesOf, wholeRoutes};
-ghost use Rattle.tables.specs.Changes.{routeKept};
-ghost use Rattle.tables.specs.Lookups.{routeOr, is_default};
+ghost use Rattle.tables.specs.Tables.{route_table, routes_of, whole_routes};
+ghost use Rattle.tables.specs.Changes.{route_kept};
+ghost use Rattle.tables.specs.Lookups.{route_or, is_default};
 
 use crate::lookup::RouteAt;
 use crate::tables::{PLACES, PREFIX_LIMIT};
@@ -41,7 +41,7 @@ pub(crate) enum RoutesOut {
 impl Route {
     // Whether the entry stays.
     fn stays(self, out: RoutesOut) -> bool
-        ensures { result ≡ routeKept out self }
+        ensures { result ≡ route_kept out self }
     {
         match out {
             RoutesOut::Nothing => true,
@@ -70,7 +70,7 @@ impl Route {
 impl RouteTable {
     // The table written anew: what stays, in its order, zeros after.
     pub(crate) fn kept(self, out: RoutesOut) -> RouteTable
-        ensures { result ≡ routeTable (only (routeKept out) (routesOf self)) }
+        ensures { result ≡ route_table (only (route_kept out) (routes_of self)) }
     {
         let entries = self.entries;
         let n = at_most(self.count, PLACES);
@@ -98,8 +98,8 @@ impl RouteTable {
 
     // A table just written anew with one entry more, if there is room.
     pub(crate) fn with(self, entry: Route) -> RouteTable
-        requires { self ≡ routeTable (routesOf self) }
-        ensures { result ≡ routeTable (entered (routesOf self) (entry ∷ [])) }
+        requires { self ≡ route_table (routes_of self) }
+        ensures { result ≡ route_table (entered (routes_of self) (entry ∷ [])) }
     {
         let n = self.count;
         if PLACES <= n {
@@ -115,14 +115,14 @@ impl RouteTable {
 
     // How many entries are in use.
     pub(crate) fn len(self) -> usize
-        ensures { result ≡ length (routesOf self) }
+        ensures { result ≡ length (routes_of self) }
     {
         at_most(self.count, PLACES)
     }
 
     // The entry at a place, if that is in use.
     pub(crate) fn at(self, place: usize) -> RouteAt
-        ensures { result ≡ routeOr (get_elem? (routesOf self) place) }
+        ensures { result ≡ route_or (get_elem? (routes_of self) place) }
     {
         let entries = self.entries;
         let n = at_most(self.count, PLACES);
@@ -134,7 +134,7 @@ impl RouteTable {
 
     // Whether the count is within the places, and the prefixes of the entries in use within 32.
     pub(crate) fn is_whole(self) -> bool
-        ensures { result ≡ wholeRoutes self }
+        ensures { result ≡ whole_routes self }
     {
         let entries = self.entries;
         let n = self.count;
@@ -154,7 +154,7 @@ impl RouteTable {
 
     // The first of the entries in use that goes to 0.0.0.0/0.
     pub(crate) fn default_route(self) -> RouteAt
-        ensures { result ≡ routeOr (first is_default (routesOf self)) }
+        ensures { result ≡ route_or (first is_default (routes_of self)) }
     {
         let entries = self.entries;
         let n = at_most(self.count, PLACES);

@@ -1,6 +1,6 @@
 // The tables, empty and whole.
 ghost use Rattle.std.specs.Prelude.{◌≡◌};
-ghost use Rattle.tables.specs.Tables.{emptyTables, wholeTables};
+ghost use Rattle.tables.specs.Tables.{empty_tables, whole_tables};
 
 use crate::address::{AddrTable, IfaceAddr};
 use crate::route::{Route, RouteTable};
@@ -22,7 +22,7 @@ pub struct Tables {
 impl Tables {
     // No entries, and generation 0.
     pub fn new() -> Tables
-        ensures { result ≡ emptyTables }
+        ensures { result ≡ empty_tables }
     {
         Tables {
             ip_addrs: AddrTable {
@@ -48,7 +48,7 @@ impl Tables {
 
     // Whether number 9 finds nothing here: no count over 4, no prefix in use over 32.
     pub fn is_whole(self) -> bool
-        ensures { result ≡ wholeTables self }
+        ensures { result ≡ whole_tables self }
     {
         let addrs = self.ip_addrs;
         let routes = self.routes;

@@ -9,47 +9,47 @@ use lib.Dec.{eqb, leb}
 use borrow.Author.Tests.{eq-eqb, ne_eqb, eqb-false}
 use Rattle.choice.specs.Choice.{if◌then◌else◌}
 use Rattle.trace.specs.Lines.{starts_with}
-use Rattle.trace.specs.Digits.{pairsOf}
+use Rattle.trace.specs.Digits.{pairs_of}
 use Rattle.trace.specs.Numbers.{decimal, dotted, address, size_of}
-use Rattle.trace.specs.Forms.{percent, charA, charX, Part, letter, gap, parts_of, limitOf, number_of, ofNumber, octetsTaken, gapTaken, letterTaken, taken, headPart, partSize}
+use Rattle.trace.specs.Forms.{percent, char_a, char_x, Part, letter, gap, parts_of, limit_of, number_of, of_number, octets_taken, gap_taken, letterTaken, taken, head_part, part_size}
 use Rattle.trace.specs.declared.number.Number.{Number}
 use Rattle.trace.specs.declared.number.Number.TheVariants as number
 use Rattle.trace.specs.declared.gap.Limit.{Limit}
 use Rattle.trace.specs.declared.gap.Limit.TheVariants.{Unknown, Most}
 use Rattle.trace.specs.declared.gap.Taken.{Taken}
 use Rattle.trace.specs.declared.gap.Taken.TheVariants.{Stopped, Letter, Value, Octets}
-use Rattle.trace.proofs.Digits.{pairs-inside}
-use Rattle.trace.proofs.Numbers.{bounded-decimal, bounded-dotted, starts-inside}
+use Rattle.trace.proofs.Digits.{pairs_inside}
+use Rattle.trace.proofs.Numbers.{bounded_decimal, bounded_dotted, starts_inside}
 
 -- the number of a gap that is no address
-pub number_by : (kind : ℕ) (t : List ℕ) {l : Limit} → (kind ≡ charA → ⊥) → limitOf kind ≡ l
+pub number_by : (kind : ℕ) (t : List ℕ) {l : Limit} → (kind ≡ char_a → ⊥) → limit_of kind ≡ l
     → number_of kind t ≡ elim l [ Most most ↦ decimal most t | Unknown ↦ number.Stopped 0 ]
 unfolding number_of if◌then◌else◌
-number_by kind t n e = simp (ne_eqb kind charA n) (ap (λ (m : Limit). elim m [ Most most ↦ decimal most t | Unknown ↦ number.Stopped 0 ]) e)
+number_by kind t n e = simp (ne_eqb kind char_a n) (ap (λ (m : Limit). elim m [ Most most ↦ decimal most t | Unknown ↦ number.Stopped 0 ]) e)
 
 -- the first part of a form
-pub head-letter : (f : List ℕ) → (get_or f 0 0 ≡ percent → ⊥) → headPart f ≡ letter (get_or f 0 0)
-unfolding headPart if◌then◌else◌
-head-letter f n = simp (ne_eqb _ _ n)
+pub head_letter : (f : List ℕ) → (get_or f 0 0 ≡ percent → ⊥) → head_part f ≡ letter (get_or f 0 0)
+unfolding head_part if◌then◌else◌
+head_letter f n = simp (ne_eqb _ _ n)
 
-pub head-gap : (f : List ℕ) → get_or f 0 0 ≡ percent → headPart f ≡ gap (get_or f 1 0)
-unfolding headPart if◌then◌else◌
-head-gap f e = simp (eq-eqb _ _ e)
+pub head_gap : (f : List ℕ) → get_or f 0 0 ≡ percent → head_part f ≡ gap (get_or f 1 0)
+unfolding head_part if◌then◌else◌
+head_gap f e = simp (eq-eqb _ _ e)
 
 -- there is no gap of no kind
-pub head-cut : (f t : List ℕ) → get_or f 0 0 ≡ percent → length f ≡ 1 → taken (headPart f) t ≡ Stopped 0
-unfolding gapTaken number_of limitOf if◌then◌else◌
-head-cut f t e h = rw (head-gap f e, get_or-eq_default f 0 {n = 1} (omega arith))
+pub head_cut : (f t : List ℕ) → get_or f 0 0 ≡ percent → length f ≡ 1 → taken (head_part f) t ≡ Stopped 0
+unfolding gap_taken number_of limit_of if◌then◌else◌
+head_cut f t e h = rw (head_gap f e, get_or-eq_default f 0 {n = 1} (omega arith))
 
-pub parts-step : (f : List ℕ) → 0 < length f → parts_of f ≡ headPart f ∷ parts_of (drop (partSize f) f)
-unfolding parts_of headPart partSize if◌then◌else◌
-parts-step [] h = absurd (omega arith)
-parts-step (s ∷ []) h = by (eqb s percent)
+pub parts_step : (f : List ℕ) → 0 < length f → parts_of f ≡ head_part f ∷ parts_of (drop (part_size f) f)
+unfolding parts_of head_part part_size if◌then◌else◌
+parts_step [] h = absurd (omega arith)
+parts_step (s ∷ []) h = by (eqb s percent)
   where
     by : (b : Bool) → (if b then gap 0 else letter s) ∷ [] ≡ (if b then gap 0 else letter s) ∷ parts_of (drop (if b then 1 else 1) (s ∷ []))
     by true = refl
     by false = refl
-parts-step (s ∷ kind ∷ f) h = by (eqb s percent) (eqb (length (s ∷ kind ∷ f)) 1) (ne_eqb (length (s ∷ kind ∷ f)) 1 (λ e. omega arith))
+parts_step (s ∷ kind ∷ f) h = by (eqb s percent) (eqb (length (s ∷ kind ∷ f)) 1) (ne_eqb (length (s ∷ kind ∷ f)) 1 (λ e. omega arith))
   where
     by : (b d : Bool) → d ≡ false
         → (if b then gap kind ∷ parts_of f else letter s ∷ parts_of (kind ∷ f)) ≡ (if b then gap kind else letter s) ∷ parts_of (drop (if b then (if d then 1 else 2) else 1) (s ∷ kind ∷ f))
@@ -57,9 +57,9 @@ parts-step (s ∷ kind ∷ f) h = by (eqb s percent) (eqb (length (s ∷ kind �
     by true true e = absurd (true≢false e)
     by false d e = refl
 
-pub part-size : (f : List ℕ) → 0 < length f → (0 < partSize f) × (partSize f ≤ length f)
-unfolding partSize if◌then◌else◌
-part-size f h = by (eqb (get_or f 0 0) percent) (eqb (length f) 1) refl
+pub part_size_lem : (f : List ℕ) → 0 < length f → (0 < part_size f) × (part_size f ≤ length f)
+unfolding part_size if◌then◌else◌
+part_size_lem f h = by (eqb (get_or f 0 0) percent) (eqb (length f) 1) refl
   where
     by : (b d : Bool) → eqb (length f) 1 ≡ d → (0 < (if b then (if d then 1 else 2) else 1)) × ((if b then (if d then 1 else 2) else 1) ≤ length f)
     by true true e = (omega arith, omega arith)
@@ -67,46 +67,46 @@ part-size f h = by (eqb (get_or f 0 0) percent) (eqb (length f) 1) refl
     by false d e = (omega arith, omega arith)
 
 -- how many characters of a text are taken, or stand before the fault
-abbrev pub takenSize : Taken → ℕ
-takenSize (Stopped n) = n
-takenSize Letter = 1
-takenSize (Value value n) = n
-takenSize (Octets n) = 2 * n
+abbrev pub taken_size : Taken → ℕ
+taken_size (Stopped n) = n
+taken_size Letter = 1
+taken_size (Value value n) = n
+taken_size (Octets n) = 2 * n
 
-address-inside : (t : List ℕ) → size_of (address t) ≤ length t
+address_inside : (t : List ℕ) → size_of (address t) ≤ length t
 unfolding address
-address-inside t = (bounded-dotted _ t (dotted t (dotted t (decimal 255 t))) (bounded-dotted _ t (dotted t (decimal 255 t)) (bounded-dotted 255 t (decimal 255 t) (bounded-decimal 255 t)))).size
+address_inside t = (bounded_dotted _ t (dotted t (dotted t (decimal 255 t))) (bounded_dotted _ t (dotted t (decimal 255 t)) (bounded_dotted 255 t (decimal 255 t) (bounded_decimal 255 t)))).size
 
-number-inside : (kind : ℕ) (t : List ℕ) → size_of (number_of kind t) ≤ length t
+number_inside : (kind : ℕ) (t : List ℕ) → size_of (number_of kind t) ≤ length t
 unfolding number_of if◌then◌else◌
-number-inside kind t = by (eqb kind charA) (limitOf kind)
+number_inside kind t = by (eqb kind char_a) (limit_of kind)
   where
     by : (b : Bool) (l : Limit) → size_of (if b then address t else elim l [ Most most ↦ decimal most t | Unknown ↦ number.Stopped 0 ]) ≤ length t
-    by true l = address-inside t
-    by false (Most most) = (bounded-decimal most t).size
+    by true l = address_inside t
+    by false (Most most) = (bounded_decimal most t).size
     by false Unknown = omega arith
 
-of-number-size : (n : Number) → takenSize (ofNumber n) ≡ size_of n
-of-number-size (number.Stopped n) = refl
-of-number-size (number.Read value n) = refl
+of_number_size : (n : Number) → taken_size (of_number n) ≡ size_of n
+of_number_size (number.Stopped n) = refl
+of_number_size (number.Read value n) = refl
 
-gap-inside : (kind : ℕ) (t : List ℕ) → takenSize (gapTaken kind t) ≤ length t
-unfolding gapTaken octetsTaken if◌then◌else◌
-gap-inside kind t = by (eqb kind charX) (leb (pairsOf t) 65535)
+gap_inside : (kind : ℕ) (t : List ℕ) → taken_size (gap_taken kind t) ≤ length t
+unfolding gap_taken octets_taken if◌then◌else◌
+gap_inside kind t = by (eqb kind char_x) (leb (pairs_of t) 65535)
   where
-    by : (b d : Bool) → takenSize (if b then (if d then Octets (pairsOf t) else Stopped 0) else ofNumber (number_of kind t)) ≤ length t
-    by true true = pairs-inside t
+    by : (b d : Bool) → taken_size (if b then (if d then Octets (pairs_of t) else Stopped 0) else of_number (number_of kind t)) ≤ length t
+    by true true = pairs_inside t
     by true false = omega arith
-    by false d = omega (arith, of-number-size (number_of kind t), number-inside kind t)
+    by false d = omega (arith, of_number_size (number_of kind t), number_inside kind t)
 
-letter-inside : (s : ℕ) (t : List ℕ) → takenSize (letterTaken s t) ≤ length t
+letter-inside : (s : ℕ) (t : List ℕ) → taken_size (letterTaken s t) ≤ length t
 unfolding letterTaken if◌then◌else◌
 letter-inside s t = by (starts_with s t) refl
   where
-    by : (b : Bool) → starts_with s t ≡ b → takenSize (if b then Letter else Stopped 0) ≤ length t
-    by true e = starts-inside s 0 t e
+    by : (b : Bool) → starts_with s t ≡ b → taken_size (if b then Letter else Stopped 0) ≤ length t
+    by true e = starts_inside s 0 t e
     by false e = omega arith
 
-pub taken-inside : (part : Part) (t : List ℕ) → takenSize (taken part t) ≤ length t
-taken-inside (letter s) t = letter-inside s t
-taken-inside (gap kind) t = gap-inside kind t
+pub taken_inside : (part : Part) (t : List ℕ) → taken_size (taken part t) ≤ length t
+taken_inside (letter s) t = letter-inside s t
+taken_inside (gap kind) t = gap_inside kind t

@@ -8,24 +8,24 @@ use lib.ListN.{length, get_or, take, drop, drop_of_length-le}
 use lib.Dec.{eqb}
 use borrow.Author.Tests.{eq-eqb, ne_eqb}
 use Rattle.choice.specs.Choice.{if◌then◌else◌}
-use Rattle.octets.proofs.Runs.{part-tail}
-use Rattle.trace.specs.Lines.{lineLength, line_at, beginsWith, starts_with}
+use Rattle.octets.proofs.Runs.{part_tail}
+use Rattle.trace.specs.Lines.{line_length, line_at, begins_with, starts_with}
 
 -- a line by its first character
-pub line-end : (t : List ℕ) → 0 < length t → get_or t 0 0 ≡ 10 → lineLength t ≡ 0
-unfolding lineLength if◌then◌else◌
-line-end [] h e = absurd (omega arith)
-line-end (c ∷ t) h e = simp (eq-eqb c 10 e)
+pub line_end_lem : (t : List ℕ) → 0 < length t → get_or t 0 0 ≡ 10 → line_length t ≡ 0
+unfolding line_length if◌then◌else◌
+line_end_lem [] h e = absurd (omega arith)
+line_end_lem (c ∷ t) h e = simp (eq-eqb c 10 e)
 
-pub line-more : (t : List ℕ) → 0 < length t → (get_or t 0 0 ≡ 10 → ⊥) → lineLength t ≡ suc (lineLength (drop 1 t))
-unfolding lineLength if◌then◌else◌
-line-more [] h e = absurd (omega arith)
-line-more (c ∷ t) h e = simp (ne_eqb c 10 e)
+pub line_more : (t : List ℕ) → 0 < length t → (get_or t 0 0 ≡ 10 → ⊥) → line_length t ≡ suc (line_length (drop 1 t))
+unfolding line_length if◌then◌else◌
+line_more [] h e = absurd (omega arith)
+line_more (c ∷ t) h e = simp (ne_eqb c 10 e)
 
-pub line-none : (t : List ℕ) → length t ≤ 0 → lineLength t ≡ 0
-unfolding lineLength
-line-none [] h = refl
-line-none (c ∷ t) h = absurd (omega arith)
+pub line_none : (t : List ℕ) → length t ≤ 0 → line_length t ≡ 0
+unfolding line_length
+line_none [] h = refl
+line_none (c ∷ t) h = absurd (omega arith)
 
 -- a line is within its text
 longer : (b : Bool) (n m : ℕ) → n ≤ m → (if b then 0 else suc n) ≤ suc m
@@ -33,46 +33,46 @@ unfolding if◌then◌else◌
 longer true n m h = omega arith
 longer false n m h = omega arith
 
-within : (t : List ℕ) → lineLength t ≤ length t
-unfolding lineLength
+within : (t : List ℕ) → line_length t ≤ length t
+unfolding line_length
 within [] = omega arith
-within (c ∷ t) = longer (eqb c 10) (lineLength t) (length t) (within t)
+within (c ∷ t) = longer (eqb c 10) (line_length t) (length t) (within t)
 
-pub line-inside : (t : List ℕ) (n : ℕ) → n ≡ lineLength t → n ≤ length t
-line-inside t n e = omega (arith, within t)
+pub line_inside : (t : List ℕ) (n : ℕ) → n ≡ line_length t → n ≤ length t
+line_inside t n e = omega (arith, within t)
 
 -- the line at a place: none behind the text, else the start of what `&t[at..]` is
-pub line-past : (at : ℕ) (t : List ℕ) → length t < at → [] ≡ line_at at t
-unfolding line_at lineLength
-line-past at t h = ap (λ (l : List ℕ). take (lineLength l) l) (sym (drop_of_length-le t {i = at} (omega arith)))
+pub line_past : (at : ℕ) (t : List ℕ) → length t < at → [] ≡ line_at at t
+unfolding line_at line_length
+line_past at t h = ap (λ (l : List ℕ). take (line_length l) l) (sym (drop_of_length-le t {i = at} (omega arith)))
 
-pub line-there : (at n : ℕ) (t : List ℕ) → n ≡ lineLength (take (length t - at) (drop at t)) → take n (take (length t - at) (drop at t)) ≡ line_at at t
+pub line_there : (at n : ℕ) (t : List ℕ) → n ≡ line_length (take (length t - at) (drop at t)) → take n (take (length t - at) (drop at t)) ≡ line_at at t
 unfolding line_at
-line-there at n t e = λ k. take ((e ∙ ap lineLength (part-tail at t)) k) (part-tail at t k)
+line_there at n t e = λ k. take ((e ∙ ap line_length (part_tail at t)) k) (part_tail at t k)
 
 -- a start by its first character
-pub begins-short : (x y : List ℕ) → 0 < length x → length y ≡ 0 → beginsWith x y ≡ false
-unfolding beginsWith
-begins-short [] y h k = absurd (omega arith)
-begins-short (a ∷ x) [] h k = refl
-begins-short (a ∷ x) (b ∷ y) h k = absurd (omega arith)
+pub begins_short : (x y : List ℕ) → 0 < length x → length y ≡ 0 → begins_with x y ≡ false
+unfolding begins_with
+begins_short [] y h k = absurd (omega arith)
+begins_short (a ∷ x) [] h k = refl
+begins_short (a ∷ x) (b ∷ y) h k = absurd (omega arith)
 
-pub begins-other : (x y : List ℕ) → 0 < length x → (length y ≡ 0 → ⊥) → (get_or x 0 0 ≡ get_or y 0 0 → ⊥) → beginsWith x y ≡ false
-unfolding beginsWith if◌then◌else◌
-begins-other [] y h k e = absurd (omega arith)
-begins-other (a ∷ x) [] h k e = absurd (omega arith)
-begins-other (a ∷ x) (b ∷ y) h k e = simp (ne_eqb a b e)
+pub begins_other : (x y : List ℕ) → 0 < length x → (length y ≡ 0 → ⊥) → (get_or x 0 0 ≡ get_or y 0 0 → ⊥) → begins_with x y ≡ false
+unfolding begins_with if◌then◌else◌
+begins_other [] y h k e = absurd (omega arith)
+begins_other (a ∷ x) [] h k e = absurd (omega arith)
+begins_other (a ∷ x) (b ∷ y) h k e = simp (ne_eqb a b e)
 
-pub begins-more : (x y : List ℕ) → 0 < length x → (length y ≡ 0 → ⊥) → get_or x 0 0 ≡ get_or y 0 0 → beginsWith x y ≡ beginsWith (drop 1 x) (drop 1 y)
-unfolding beginsWith if◌then◌else◌
-begins-more [] y h k e = absurd (omega arith)
-begins-more (a ∷ x) [] h k e = absurd (omega arith)
-begins-more (a ∷ x) (b ∷ y) h k e = simp (eq-eqb a b e)
+pub begins_more : (x y : List ℕ) → 0 < length x → (length y ≡ 0 → ⊥) → get_or x 0 0 ≡ get_or y 0 0 → begins_with x y ≡ begins_with (drop 1 x) (drop 1 y)
+unfolding begins_with if◌then◌else◌
+begins_more [] y h k e = absurd (omega arith)
+begins_more (a ∷ x) [] h k e = absurd (omega arith)
+begins_more (a ∷ x) (b ∷ y) h k e = simp (eq-eqb a b e)
 
-pub begins-all : (x y : List ℕ) → length x ≤ 0 → beginsWith x y ≡ true
-unfolding beginsWith
-begins-all [] y h = refl
-begins-all (a ∷ x) y h = absurd (omega arith)
+pub begins_all : (x y : List ℕ) → length x ≤ 0 → begins_with x y ≡ true
+unfolding begins_with
+begins_all [] y h = refl
+begins_all (a ∷ x) y h = absurd (omega arith)
 
 -- the first character of a text
 pub starts_none : (c : ℕ) (t : List ℕ) → length t ≡ 0 → starts_with c t ≡ false

@@ -7,27 +7,27 @@ use native.Mathlib.Omega.{arith}
 use lib.Dec.{leb}
 use lib.ListN.{length, drop, set, length-append, length-drop}
 use borrow.Author.Tests.{le-leb, lt-leb}
-use Rattle.choice.proofs.Choices.{if-true, if-false}
+use Rattle.choice.proofs.Choices.{if_true, if_false}
 use Rattle.choice.specs.Choice.{if◌then◌else◌}
-use Rattle.trace.specs.Forms.{Part, parts_of, taken, headPart, partSize}
-use Rattle.trace.specs.Records.{mostValues, padded, fitting, misfit, walk, recordOf}
+use Rattle.trace.specs.Forms.{Part, parts_of, taken, head_part, part_size}
+use Rattle.trace.specs.Records.{most_values, padded, fitting, misfit, walk, recordOf}
 use Rattle.trace.specs.declared.gap.Taken.{Taken}
 use Rattle.trace.specs.declared.gap.Taken.TheVariants.{Stopped, Letter, Value, Octets}
 use Rattle.trace.specs.declared.record.Record.{Record}
-use Rattle.trace.proofs.Forms.{parts-step, part-size, takenSize, taken-inside}
+use Rattle.trace.proofs.Forms.{parts_step, part_size_lem, taken_size, taken_inside}
 
 -- one value more
-pub padded-more : (n : ℕ) (values : List ℕ) (v : ℕ) → length values < n → set (padded n values) (length values) v ≡ padded n (values ++ (v ∷ []))
-padded-more zero values v h = absurd (omega arith)
-padded-more (suc n) [] v h = refl
-padded-more (suc n) (x ∷ xs) v h = ap (λ (l : List ℕ). x ∷ l) (padded-more n xs v (omega arith))
+pub padded_more : (n : ℕ) (values : List ℕ) (v : ℕ) → length values < n → set (padded n values) (length values) v ≡ padded n (values ++ (v ∷ []))
+padded_more zero values v h = absurd (omega arith)
+padded_more (suc n) [] v h = refl
+padded_more (suc n) (x ∷ xs) v h = ap (λ (l : List ℕ). x ∷ l) (padded_more n xs v (omega arith))
 
 -- what the walk does once a part took something
 abbrev pub after : List Part → List ℕ → ℕ → List ℕ → Taken → Record
 after parts values place line (Stopped size) = misfit (place + size)
 after parts values place line Letter = walk parts values (place + 1) (drop 1 line)
-after parts values place line (Value value size) = if leb (length values + 1) mostValues then walk parts (values ++ (value ∷ [])) (place + size) (drop size line) else misfit place
-after parts values place line (Octets count) = if leb (length values + 2) mostValues then walk parts (values ++ (place ∷ count ∷ [])) (place + 2 * count) (drop (2 * count) line) else misfit place
+after parts values place line (Value value size) = if leb (length values + 1) most_values then walk parts (values ++ (value ∷ [])) (place + size) (drop size line) else misfit place
+after parts values place line (Octets count) = if leb (length values + 2) most_values then walk parts (values ++ (place ∷ count ∷ [])) (place + 2 * count) (drop (2 * count) line) else misfit place
 
 pub walk_step : (part : Part) (parts : List Part) (values : List ℕ) (place : ℕ) (line : List ℕ) → walk (part ∷ parts) values place line ≡ after parts values place line (taken part line)
 unfolding walk
@@ -36,8 +36,8 @@ walk_step part parts values place line = by (taken part line)
     by : (r : Taken) → (elim r [
       | Stopped size ↦ misfit (place + size)
       | Letter ↦ walk parts values (place + 1) (drop 1 line)
-      | Value value size ↦ if leb (length values + 1) mostValues then walk parts (values ++ (value ∷ [])) (place + size) (drop size line) else misfit place
-      | Octets count ↦ if leb (length values + 2) mostValues then walk parts (values ++ (place ∷ count ∷ [])) (place + 2 * count) (drop (2 * count) line) else misfit place
+      | Value value size ↦ if leb (length values + 1) most_values then walk parts (values ++ (value ∷ [])) (place + size) (drop size line) else misfit place
+      | Octets count ↦ if leb (length values + 2) most_values then walk parts (values ++ (place ∷ count ∷ [])) (place + 2 * count) (drop (2 * count) line) else misfit place
     ]) ≡ after parts values place line r
     by (Stopped size) = refl
     by Letter = refl
@@ -59,36 +59,36 @@ walk_end (s ∷ f) t values place h g = absurd (omega arith)
 -- ---- a part of the form is done: f and t are the rest of the form and of the line, n is the part's size, r what it took
 pub record Step (t f : List ℕ) (n : ℕ) (r : Taken) : Type 0 where
   pub some : 0 < length f
-  pub size : n ≡ partSize f
-  pub got : taken (headPart f) t ≡ r
+  pub size : n ≡ part_size f
+  pub got : taken (head_part f) t ≡ r
 
-pub step_line : {t f : List ℕ} {n : ℕ} {r : Taken} → Step t f n r → takenSize r ≤ length t
-step_line {t} {f} {n} {r} s = omega (arith, taken-inside (headPart f) t, ap takenSize s.got)
+pub step_line : {t f : List ℕ} {n : ℕ} {r : Taken} → Step t f n r → taken_size r ≤ length t
+step_line {t} {f} {n} {r} s = omega (arith, taken_inside (head_part f) t, ap taken_size s.got)
 
-pub step-form : {t f : List ℕ} {n : ℕ} {r : Taken} → Step t f n r → (0 < n) × (n ≤ length f)
-step-form {t} {f} {n} {r} s = let b = part-size f s.some in (omega (arith, s.size), omega (arith, s.size))
+pub step_form : {t f : List ℕ} {n : ℕ} {r : Taken} → Step t f n r → (0 < n) × (n ≤ length f)
+step_form {t} {f} {n} {r} s = let b = part_size_lem f s.some in (omega (arith, s.size), omega (arith, s.size))
 
 -- ---- where the walk stands: `kept` and `count` are the values that were read
 pub record Walked (line form t f kept : List ℕ) (count place : ℕ) : Type 0 where
   pub values : List ℕ
-  pub holds : kept ≡ padded mostValues values
+  pub holds : kept ≡ padded most_values values
   pub counted : count ≡ length values
-  pub room : count ≤ mostValues
+  pub room : count ≤ most_values
   pub there : place + length t ≡ length line
   pub whole : recordOf form line ≡ walk (parts_of f) values place t
 
-pub walked_start : (line form : List ℕ) → Walked line form line form (padded mostValues []) 0 0
+pub walked_start : (line form : List ℕ) → Walked line form line form (padded most_values []) 0 0
 walked_start line form = record { values = []; holds = refl; counted = refl; room = omega arith; there = omega arith; whole = refl }
 
 module _ {line form t f kept : List ℕ} {count place : ℕ} (w : Walked line form t f kept count place) where
   onward : {n : ℕ} {r : Taken} → Step t f n r → recordOf form line ≡ after (parts_of (drop n f)) w.values place t r
   onward {n} {r} s =
-      w.whole ∙ ap (λ (ps : List Part). walk ps w.values place t) (parts-step f s.some)
-      ∙ walk_step (headPart f) (parts_of (drop (partSize f) f)) w.values place t
+      w.whole ∙ ap (λ (ps : List Part). walk ps w.values place t) (parts_step f s.some)
+      ∙ walk_step (head_part f) (parts_of (drop (part_size f) f)) w.values place t
       ∙ (λ k. after (parts_of (drop (sym s.size k) f)) w.values place t (s.got k))
 
-  pub walked-letter : {n : ℕ} {t' f' : List ℕ} → Step t f n Letter → t' ≡ drop 1 t → f' ≡ drop n f → Walked line form t' f' kept count (place + 1)
-  walked-letter s et ef = record {
+  pub walked_letter : {n : ℕ} {t' f' : List ℕ} → Step t f n Letter → t' ≡ drop 1 t → f' ≡ drop n f → Walked line form t' f' kept count (place + 1)
+  walked_letter s et ef = record {
     values = w.values;
     holds = w.holds;
     counted = w.counted;
@@ -97,46 +97,46 @@ module _ {line form t f kept : List ℕ} {count place : ℕ} (w : Walked line fo
     whole = onward s ∙ (λ k. walk (parts_of (sym ef k)) w.values (place + 1) (sym et k));
   }
 
-  pub walked-value : {n v size : ℕ} {t' f' : List ℕ} → Step t f n (Value v size) → count + 1 ≤ mostValues → t' ≡ drop size t → f' ≡ drop n f
+  pub walked_value : {n v size : ℕ} {t' f' : List ℕ} → Step t f n (Value v size) → count + 1 ≤ most_values → t' ≡ drop size t → f' ≡ drop n f
       → Walked line form t' f' (set kept count v) (count + 1) (place + size)
-  walked-value {n} {v} {size} s h et ef = record {
+  walked_value {n} {v} {size} s h et ef = record {
     values = w.values ++ (v ∷ []);
-    holds = (λ k. set (w.holds k) (w.counted k) v) ∙ padded-more mostValues w.values v (omega (arith, w.counted));
+    holds = (λ k. set (w.holds k) (w.counted k) v) ∙ padded_more most_values w.values v (omega (arith, w.counted));
     counted = simp length-append (omega (arith, w.counted));
     room = omega arith;
     there = omega (arith, step_line s, ap length et ∙ length-drop size t, w.there);
-    whole = onward s ∙ sym (if-true _ (le-leb (length w.values + 1) mostValues (omega (arith, w.counted))) refl) ∙ (λ k. walk (parts_of (sym ef k)) (w.values ++ (v ∷ [])) (place + size) (sym et k));
+    whole = onward s ∙ sym (if_true _ (le-leb (length w.values + 1) most_values (omega (arith, w.counted))) refl) ∙ (λ k. walk (parts_of (sym ef k)) (w.values ++ (v ∷ [])) (place + size) (sym et k));
   }
 
-  pub walked-octets : {n pairs : ℕ} {t' f' : List ℕ} → Step t f n (Octets pairs) → count + 2 ≤ mostValues → t' ≡ drop (2 * pairs) t → f' ≡ drop n f
+  pub walked_octets : {n pairs : ℕ} {t' f' : List ℕ} → Step t f n (Octets pairs) → count + 2 ≤ most_values → t' ≡ drop (2 * pairs) t → f' ≡ drop n f
       → Walked line form t' f' (set (set kept count place) (count + 1) pairs) (count + 2) (place + 2 * pairs)
-  walked-octets {n} {pairs} s h et ef = record {
+  walked_octets {n} {pairs} s h et ef = record {
     values = w.values ++ (place ∷ pairs ∷ []);
     holds = two;
     counted = simp length-append (omega (arith, w.counted));
     room = omega arith;
     there = omega (arith, step_line s, ap length et ∙ length-drop (2 * pairs) t, w.there);
-    whole = onward s ∙ sym (if-true _ (le-leb (length w.values + 2) mostValues (omega (arith, w.counted))) refl) ∙ (λ k. walk (parts_of (sym ef k)) (w.values ++ (place ∷ pairs ∷ [])) (place + 2 * pairs) (sym et k));
+    whole = onward s ∙ sym (if_true _ (le-leb (length w.values + 2) most_values (omega (arith, w.counted))) refl) ∙ (λ k. walk (parts_of (sym ef k)) (w.values ++ (place ∷ pairs ∷ [])) (place + 2 * pairs) (sym et k));
   }
     where
-      first : set kept count place ≡ padded mostValues (w.values ++ (place ∷ []))
-      first = (λ k. set (w.holds k) (w.counted k) place) ∙ padded-more mostValues w.values place (omega (arith, w.counted))
+      first : set kept count place ≡ padded most_values (w.values ++ (place ∷ []))
+      first = (λ k. set (w.holds k) (w.counted k) place) ∙ padded_more most_values w.values place (omega (arith, w.counted))
 
       longer : length (w.values ++ (place ∷ [])) ≡ count + 1
       longer = simp length-append (omega (arith, w.counted))
 
-      two : set (set kept count place) (count + 1) pairs ≡ padded mostValues (w.values ++ (place ∷ pairs ∷ []))
-      two = (λ k. set (first k) (sym longer k) pairs) ∙ padded-more mostValues (w.values ++ (place ∷ [])) pairs (omega (arith, longer)) ∙ ap (padded mostValues) (append_assoc w.values (place ∷ []) (pairs ∷ []))
+      two : set (set kept count place) (count + 1) pairs ≡ padded most_values (w.values ++ (place ∷ pairs ∷ []))
+      two = (λ k. set (first k) (sym longer k) pairs) ∙ padded_more most_values (w.values ++ (place ∷ [])) pairs (omega (arith, longer)) ∙ ap (padded most_values) (append_assoc w.values (place ∷ []) (pairs ∷ []))
 
   -- where the walk ends
   pub walked_stop : {n size : ℕ} → Step t f n (Stopped size) → recordOf form line ≡ misfit (place + size)
   walked_stop s = onward s
 
-  pub walked-full : {n v size : ℕ} → Step t f n (Value v size) → mostValues < count + 1 → recordOf form line ≡ misfit place
-  walked-full s h = onward s ∙ sym (if-false _ (lt-leb (length w.values + 1) mostValues (omega (arith, w.counted))) refl)
+  pub walked_full : {n v size : ℕ} → Step t f n (Value v size) → most_values < count + 1 → recordOf form line ≡ misfit place
+  walked_full s h = onward s ∙ sym (if_false _ (lt-leb (length w.values + 1) most_values (omega (arith, w.counted))) refl)
 
-  pub walked-full-octets : {n pairs : ℕ} → Step t f n (Octets pairs) → mostValues < count + 2 → recordOf form line ≡ misfit place
-  walked-full-octets s h = onward s ∙ sym (if-false _ (lt-leb (length w.values + 2) mostValues (omega (arith, w.counted))) refl)
+  pub walked_full_octets : {n pairs : ℕ} → Step t f n (Octets pairs) → most_values < count + 2 → recordOf form line ≡ misfit place
+  walked_full_octets s h = onward s ∙ sym (if_false _ (lt-leb (length w.values + 2) most_values (omega (arith, w.counted))) refl)
 
   pub walked_more : length f ≤ 0 → 0 < length t → recordOf form line ≡ misfit place
   walked_more h g = w.whole ∙ walk_more f t w.values place h g

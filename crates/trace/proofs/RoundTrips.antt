@@ -9,23 +9,23 @@ use lib.Seq.{drop_at, length-take-le, get_or-take, get_or-drop}
 use lib.Dec.{eqb, ltb}
 use borrow.Author.Tests.{le-leb, eq-eqb, ne_eqb, ltb-false}
 use Rattle.choice.specs.Choice.{if◌then◌else◌}
-use Rattle.choice.proofs.Choices.{if-true}
+use Rattle.choice.proofs.Choices.{if_true}
 use Rattle.octets.specs.declared.number.MaybeNumber.TheVariants.{Some}
 use Rattle.octets.proofs.Words.{joined32}
 use Rattle.trace.specs.Lines.{starts_with}
-use Rattle.trace.specs.Digits.{digitOf, octetAt}
+use Rattle.trace.specs.Digits.{digit_of, octet_at}
 use Rattle.trace.specs.Numbers.{address}
-use Rattle.trace.specs.Forms.{charA, charB, charC, charH, charQ, charW, charX, Part, letter, gap, parts_of, limitOf, number_of, ofNumber, octetsTaken, gapTaken, letterTaken, taken}
-use Rattle.trace.specs.Records.{mostValues, fitting, walk, recordOf}
-use Rattle.trace.specs.Texts.{decimalText, addressText, octetsText, Field, number, octets, fieldText, recordText, fieldValues, recordValues, Fills, decimals, addresses, bytes, Filled, AllOctets, apart}
-use Rattle.trace.specs.Written.{Wrote, width, field_of, fields_of, line_of, Given, given-none, given-letter, given-number, given-octets, Found, found_none, found-letter, found_number, found-octets, ReadBack}
+use Rattle.trace.specs.Forms.{char_a, char_b, char_c, char_h, char_q, char_w, char_x, Part, letter, gap, parts_of, limit_of, number_of, of_number, octets_taken, gap_taken, letterTaken, taken}
+use Rattle.trace.specs.Records.{most_values, fitting, walk, recordOf}
+use Rattle.trace.specs.Texts.{decimal_text, address_text, octets_text, Field, number, octets, field_text, recordText, field_values, recordValues, Fills, decimals, addresses, bytes, Filled, AllOctets, apart}
+use Rattle.trace.specs.Written.{Wrote, width, field_of, fields_of, line_of, Given, given_none, given_letter, given_number, given_octets, Found, found_none, found_letter, found_number, found_octets, ReadBack}
 use Rattle.trace.specs.declared.gap.Limit.{Limit}
 use Rattle.trace.specs.declared.gap.Limit.TheVariants.{Unknown, Most}
 use Rattle.trace.specs.declared.gap.Taken.{Taken}
 use Rattle.trace.specs.declared.gap.Taken.TheVariants.{Letter, Value, Octets}
 use Rattle.trace.proofs.Forms.{number_by}
 use Rattle.trace.proofs.Records.{after, walk_step}
-use Rattle.trace.proofs.Texts.{NoDigit, read-decimal, read-address, read_pairs, octets-length, read-octet}
+use Rattle.trace.proofs.Texts.{NoDigit, read_decimal, read_address, read_pairs, octets_length, read_octet}
 use Rattle.trace.proofs.Writers.{held}
 
 -- ---- the limit of a gap
@@ -33,9 +33,9 @@ abbrev most_of : Limit → ℕ
 most_of Unknown = 0
 most_of (Most most) = most
 
-limit-fits : (kind : ℕ) → most_of (limitOf kind) ≤ 18446744073709551615
-unfolding limitOf if◌then◌else◌
-limit-fits kind = by (eqb kind charB) (eqb kind charC) (eqb kind charH) (eqb kind charW) (eqb kind charQ)
+limit_fits : (kind : ℕ) → most_of (limit_of kind) ≤ 18446744073709551615
+unfolding limit_of if◌then◌else◌
+limit_fits kind = by (eqb kind char_b) (eqb kind char_c) (eqb kind char_h) (eqb kind char_w) (eqb kind char_q)
   where
     by : (b c h w q : Bool) → most_of (if b then Most 1 else if c then Most 255 else if h then Most 65535 else if w then Most 4294967295 else if q then Most 18446744073709551615 else Unknown) ≤ 18446744073709551615
     by true c h w q = omega arith
@@ -46,54 +46,54 @@ limit-fits kind = by (eqb kind charB) (eqb kind charC) (eqb kind charH) (eqb kin
     by false false false false false = omega arith
 
 -- a gap with a limit is neither %a nor %x
-no-limit : (kind most : ℕ) → limitOf kind ≡ Unknown → limitOf kind ≡ Most most → ⊥
-no-limit kind most u e = let z : ◌≡◌ {A = ℕ} 0 1 = cc in omega arith
+no_limit : (kind most : ℕ) → limit_of kind ≡ Unknown → limit_of kind ≡ Most most → ⊥
+no_limit kind most u e = let z : ◌≡◌ {A = ℕ} 0 1 = cc in omega arith
 
-limit-not-a : (kind most : ℕ) → limitOf kind ≡ Most most → kind ≡ charA → ⊥
-unfolding limitOf if◌then◌else◌
-limit-not-a kind most e q = no-limit kind most (ap limitOf q) e
+limit_not_a : (kind most : ℕ) → limit_of kind ≡ Most most → kind ≡ char_a → ⊥
+unfolding limit_of if◌then◌else◌
+limit_not_a kind most e q = no_limit kind most (ap limit_of q) e
 
-limit-not-x : (kind most : ℕ) → limitOf kind ≡ Most most → kind ≡ charX → ⊥
-unfolding limitOf if◌then◌else◌
-limit-not-x kind most e q = no-limit kind most (ap limitOf q) e
+limit_not_x : (kind most : ℕ) → limit_of kind ≡ Most most → kind ≡ char_x → ⊥
+unfolding limit_of if◌then◌else◌
+limit_not_x kind most e q = no_limit kind most (ap limit_of q) e
 
-number-address : (text : List ℕ) → number_of charA text ≡ address text
+number_address : (text : List ℕ) → number_of char_a text ≡ address text
 unfolding number_of if◌then◌else◌
-number-address text = refl
+number_address text = refl
 
 -- ---- what a gap takes of the text that fills it
-abbrev fieldTaken : ℕ → Field → Taken
-fieldTaken kind (number v) = Value v (length (fieldText kind (number v)))
-fieldTaken kind (octets os) = Octets (length os)
+abbrev field_taken : ℕ → Field → Taken
+field_taken kind (number v) = Value v (length (field_text kind (number v)))
+field_taken kind (octets os) = Octets (length os)
 
-field-taken : (kind : ℕ) (field : Field) (rest : List ℕ) → Fills kind field → NoDigit rest → taken (gap kind) (fieldText kind field ++ rest) ≡ fieldTaken kind field
-unfolding gapTaken octetsTaken if◌then◌else◌
-field-taken kind (number v) rest (decimals {most = most} e h) n =
-    let a = limit-not-a kind most e in
-    let x = limit-not-x kind most e in
-    let small : v < 100000000000000000000 = omega (arith, limit-fits kind, ap most_of e) in
-    simp (ne_eqb kind charX x, ne_eqb kind charA a) (ap ofNumber (number_by kind (decimalText v ++ rest) a e ∙ read-decimal most v rest h small n))
-field-taken kind (number v) rest (addresses h) n =
-    ap ofNumber (number-address (addressText v ++ rest) ∙ read-address (v / 16777216 % 256) (v / 65536 % 256) (v / 256 % 256) (v % 256) rest (omega arith) (omega arith) (omega arith) (omega arith) n) ∙ ap (λ (w : ℕ). Value w (length (addressText v))) (joined32 v h)
-field-taken kind (octets os) rest (bytes o h) n =
+field_taken_lem : (kind : ℕ) (field : Field) (rest : List ℕ) → Fills kind field → NoDigit rest → taken (gap kind) (field_text kind field ++ rest) ≡ field_taken kind field
+unfolding gap_taken octets_taken if◌then◌else◌
+field_taken_lem kind (number v) rest (decimals {most = most} e h) n =
+    let a = limit_not_a kind most e in
+    let x = limit_not_x kind most e in
+    let small : v < 100000000000000000000 = omega (arith, limit_fits kind, ap most_of e) in
+    simp (ne_eqb kind char_x x, ne_eqb kind char_a a) (ap of_number (number_by kind (decimal_text v ++ rest) a e ∙ read_decimal most v rest h small n))
+field_taken_lem kind (number v) rest (addresses h) n =
+    ap of_number (number_address (address_text v ++ rest) ∙ read_address (v / 16777216 % 256) (v / 65536 % 256) (v / 256 % 256) (v % 256) rest (omega arith) (omega arith) (omega arith) (omega arith) n) ∙ ap (λ (w : ℕ). Value w (length (address_text v))) (joined32 v h)
+field_taken_lem kind (octets os) rest (bytes o h) n =
     simp (read_pairs os rest o n, le-leb (length os) 65535 h)
 
 -- ---- a form whose gaps stand apart
-rest-no-digit : (kind : ℕ) (parts : List Part) (fields : List Field) → apart (gap kind ∷ parts) ≡ true → NoDigit (recordText parts fields)
+rest_no_digit : (kind : ℕ) (parts : List Part) (fields : List Field) → apart (gap kind ∷ parts) ≡ true → NoDigit (recordText parts fields)
 unfolding apart recordText if◌then◌else◌
-rest-no-digit kind [] fields e = tt
-rest-no-digit kind (gap other ∷ parts) fields e = absurd (true≢false (sym e))
-rest-no-digit kind (letter s ∷ parts) fields e = by (ltb (digitOf s) 16) refl e
+rest_no_digit kind [] fields e = tt
+rest_no_digit kind (gap other ∷ parts) fields e = absurd (true≢false (sym e))
+rest_no_digit kind (letter s ∷ parts) fields e = by (ltb (digit_of s) 16) refl e
   where
-    by : (b : Bool) → ltb (digitOf s) 16 ≡ b → (if b then false else apart parts) ≡ true → 16 ≤ digitOf s
+    by : (b : Bool) → ltb (digit_of s) 16 ≡ b → (if b then false else apart parts) ≡ true → 16 ≤ digit_of s
     by true t q = absurd (true≢false (sym q))
-    by false t q = ltb-false (digitOf s) 16 t
+    by false t q = ltb-false (digit_of s) 16 t
 
-rest-apart : (kind : ℕ) (parts : List Part) → apart (gap kind ∷ parts) ≡ true → apart parts ≡ true
+rest_apart : (kind : ℕ) (parts : List Part) → apart (gap kind ∷ parts) ≡ true → apart parts ≡ true
 unfolding apart if◌then◌else◌
-rest-apart kind [] e = refl
-rest-apart kind (gap other ∷ parts) e = absurd (true≢false (sym e))
-rest-apart kind (letter s ∷ parts) e = by (ltb (digitOf s) 16) e
+rest_apart kind [] e = refl
+rest_apart kind (gap other ∷ parts) e = absurd (true≢false (sym e))
+rest_apart kind (letter s ∷ parts) e = by (ltb (digit_of s) 16) e
   where
     by : (b : Bool) → (if b then false else apart parts) ≡ true → apart parts ≡ true
     by true q = absurd (true≢false (sym q))
@@ -105,153 +105,153 @@ letter-taken s text = simp (eq-eqb s s refl)
 
 -- ---- the walk, from any place on
 -- a gap that took its field goes on behind it
-field-on : (kind : ℕ) (field : Field) (parts : List Part) (values : List ℕ) (place : ℕ) (rest : List ℕ)
-    → length values + length (fieldValues place field) ≤ mostValues
-    → after parts values place (fieldText kind field ++ rest) (fieldTaken kind field) ≡ walk parts (values ++ fieldValues place field) (place + length (fieldText kind field)) rest
-field-on kind (number v) parts values place rest h =
-    sym (if-true _ (le-leb (length values + 1) mostValues h) refl) ∙ ap (walk parts (values ++ (v ∷ [])) (place + length (fieldText kind (number v)))) (drop_at (fieldText kind (number v)) rest (length (fieldText kind (number v))) refl)
-field-on kind (octets os) parts values place rest h =
-    sym (if-true _ (le-leb (length values + 2) mostValues h) refl)
-    ∙ (λ k. walk parts (values ++ (place ∷ length os ∷ [])) (place + sym (octets-length os) k) (drop_at (octetsText os) rest (2 * length os) (octets-length os) k))
+field_on : (kind : ℕ) (field : Field) (parts : List Part) (values : List ℕ) (place : ℕ) (rest : List ℕ)
+    → length values + length (field_values place field) ≤ most_values
+    → after parts values place (field_text kind field ++ rest) (field_taken kind field) ≡ walk parts (values ++ field_values place field) (place + length (field_text kind field)) rest
+field_on kind (number v) parts values place rest h =
+    sym (if_true _ (le-leb (length values + 1) most_values h) refl) ∙ ap (walk parts (values ++ (v ∷ [])) (place + length (field_text kind (number v)))) (drop_at (field_text kind (number v)) rest (length (field_text kind (number v))) refl)
+field_on kind (octets os) parts values place rest h =
+    sym (if_true _ (le-leb (length values + 2) most_values h) refl)
+    ∙ (λ k. walk parts (values ++ (place ∷ length os ∷ [])) (place + sym (octets_length os) k) (drop_at (octets_text os) rest (2 * length os) (octets_length os) k))
 
-walk-text : (parts : List Part) (fields : List Field) (values : List ℕ) (place : ℕ) → apart parts ≡ true → Filled parts fields
-    → length values + length (recordValues place parts fields) ≤ mostValues
+walk_text : (parts : List Part) (fields : List Field) (values : List ℕ) (place : ℕ) → apart parts ≡ true → Filled parts fields
+    → length values + length (recordValues place parts fields) ≤ most_values
     → walk parts values place (recordText parts fields) ≡ fitting (values ++ recordValues place parts fields) (place + length (recordText parts fields))
 unfolding apart Filled recordText recordValues walk
-walk-text [] [] values place a f h = let z : place + 0 ≡ place = omega arith in rw (append-nil values, z)
-walk-text [] (field ∷ fields) values place a f h = absurd f
-walk-text (letter s ∷ parts) fields values place a f h =
+walk_text [] [] values place a f h = let z : place + 0 ≡ place = omega arith in rw (append-nil values, z)
+walk_text [] (field ∷ fields) values place a f h = absurd f
+walk_text (letter s ∷ parts) fields values place a f h =
     let text = recordText parts fields in
     let size : place + 1 + length text ≡ place + suc (length text) = omega arith in
-    walk_step (letter s) parts values place (s ∷ text) ∙ ap (after parts values place (s ∷ text)) (letter-taken s text) ∙ walk-text parts fields values (place + 1) a f h
+    walk_step (letter s) parts values place (s ∷ text) ∙ ap (after parts values place (s ∷ text)) (letter-taken s text) ∙ walk_text parts fields values (place + 1) a f h
     ∙ ap (fitting (values ++ recordValues (place + 1) parts fields)) size
-walk-text (gap kind ∷ parts) [] values place a f h = absurd f
-walk-text (gap kind ∷ parts) (field ∷ fields) values place a f h =
-    let text = fieldText kind field in
+walk_text (gap kind ∷ parts) [] values place a f h = absurd f
+walk_text (gap kind ∷ parts) (field ∷ fields) values place a f h =
+    let text = field_text kind field in
     let rest = recordText parts fields in
-    let here = fieldValues place field in
+    let here = field_values place field in
     let more = recordValues (place + length text) parts fields in
-    let room : length values + (length here + length more) ≤ mostValues = omega (arith, length-append here more) in
-    let ahead : length (values ++ here) + length more ≤ mostValues = simp length-append (omega arith) in
+    let room : length values + (length here + length more) ≤ most_values = omega (arith, length-append here more) in
+    let ahead : length (values ++ here) + length more ≤ most_values = simp length-append (omega arith) in
     let size : place + length text + length rest ≡ place + length (text ++ rest) = simp length-append (omega arith) in
-    walk_step (gap kind) parts values place (text ++ rest) ∙ ap (after parts values place (text ++ rest)) (field-taken kind field rest f.0 (rest-no-digit kind parts fields a))
-    ∙ field-on kind field parts values place rest (omega arith)
-    ∙ walk-text parts fields (values ++ here) (place + length text) (rest-apart kind parts a) f.1 ahead
+    walk_step (gap kind) parts values place (text ++ rest) ∙ ap (after parts values place (text ++ rest)) (field_taken_lem kind field rest f.0 (rest_no_digit kind parts fields a))
+    ∙ field_on kind field parts values place rest (omega arith)
+    ∙ walk_text parts fields (values ++ here) (place + length text) (rest_apart kind parts a) f.1 ahead
     ∙ (λ k. fitting (append_assoc values here more k) (size k))
 
 -- A record as it is written fits its form, and holds what was written.
-pub read-written : (form : List ℕ) (fields : List Field) → apart (parts_of form) ≡ true → Filled (parts_of form) fields
-    → length (recordValues 0 (parts_of form) fields) ≤ mostValues
+pub read_written : (form : List ℕ) (fields : List Field) → apart (parts_of form) ≡ true → Filled (parts_of form) fields
+    → length (recordValues 0 (parts_of form) fields) ≤ most_values
     → recordOf form (recordText (parts_of form) fields) ≡ fitting (recordValues 0 (parts_of form) fields) (length (recordText (parts_of form) fields))
-read-written form fields a f h =
+read_written form fields a f h =
     let size : 0 + length (recordText (parts_of form) fields) ≡ length (recordText (parts_of form) fields) = omega arith in
-    walk-text (parts_of form) fields [] 0 a f (omega arith) ∙ ap (fitting (recordValues 0 (parts_of form) fields)) size
+    walk_text (parts_of form) fields [] 0 a f (omega arith) ∙ ap (fitting (recordValues 0 (parts_of form) fields)) size
 
 -- ---- lines as write_record writes them: one whose fields fit is read as those fields
-pub read-fields : (form values source : List ℕ) → apart (parts_of form) ≡ true → Filled (parts_of form) (fields_of (parts_of form) values source)
-    → length (recordValues 0 (parts_of form) (fields_of (parts_of form) values source)) ≤ mostValues
+pub read_fields : (form values source : List ℕ) → apart (parts_of form) ≡ true → Filled (parts_of form) (fields_of (parts_of form) values source)
+    → length (recordValues 0 (parts_of form) (fields_of (parts_of form) values source)) ≤ most_values
     → recordOf form (line_of form values source) ≡ fitting (recordValues 0 (parts_of form) (fields_of (parts_of form) values source)) (length (line_of form values source))
 unfolding line_of
-read-fields form values source a f h = read-written form (fields_of (parts_of form) values source) a f h
+read_fields form values source a f h = read_written form (fields_of (parts_of form) values source) a f h
 
 -- ---- values that fill their gaps: the fields that they are
-number-not-x : {kind v : ℕ} → Fills kind (number v) → kind ≡ charX → ⊥
-number-not-x {kind} (decimals {most = most} e h) x = limit-not-x kind most e x
-number-not-x (addresses h) x = omega arith
+number_not_x : {kind v : ℕ} → Fills kind (number v) → kind ≡ char_x → ⊥
+number_not_x {kind} (decimals {most = most} e h) x = limit_not_x kind most e x
+number_not_x (addresses h) x = omega arith
 
-number-field : (kind v : ℕ) (values source : List ℕ) → Fills kind (number v) → (width kind ≡ 1) × (field_of kind (v ∷ values) source ≡ number v)
+number_field : (kind v : ℕ) (values source : List ℕ) → Fills kind (number v) → (width kind ≡ 1) × (field_of kind (v ∷ values) source ≡ number v)
 unfolding width field_of if◌then◌else◌
-number-field kind v values source f = (simp (ne_eqb kind charX (number-not-x f)), simp (ne_eqb kind charX (number-not-x f)))
+number_field kind v values source f = (simp (ne_eqb kind char_x (number_not_x f)), simp (ne_eqb kind char_x (number_not_x f)))
 
-at-hand : (place count : ℕ) (source : List ℕ) → place + count ≤ length source → length (take count (drop place source)) ≡ count
-at-hand place count source h = length-take-le count (drop place source) (simp length-drop (omega arith))
+at_hand : (place count : ℕ) (source : List ℕ) → place + count ≤ length source → length (take count (drop place source)) ≡ count
+at_hand place count source h = length-take-le count (drop place source) (simp length-drop (omega arith))
 
-octets-there : (place count i : ℕ) (source before rest : List ℕ) → place + count ≤ length source → AllOctets (take count (drop place source)) → i < count
-    → octetAt (length before + 2 * i) (before ++ (octetsText (take count (drop place source)) ++ rest)) ≡ Some (get_or source (place + i) 0)
-octets-there place count i source before rest h o k =
-    read-octet before (take count (drop place source)) rest i o (omega (arith, at-hand place count source h)) ∙ ap Some (get_or-take count (drop place source) i 0 k ∙ get_or-drop place source i 0)
+octets_there : (place count i : ℕ) (source before rest : List ℕ) → place + count ≤ length source → AllOctets (take count (drop place source)) → i < count
+    → octet_at (length before + 2 * i) (before ++ (octets_text (take count (drop place source)) ++ rest)) ≡ Some (get_or source (place + i) 0)
+octets_there place count i source before rest h o k =
+    read_octet before (take count (drop place source)) rest i o (omega (arith, at_hand place count source h)) ∙ ap Some (get_or-take count (drop place source) i 0 k ∙ get_or-drop place source i 0)
 
 module _ {source : List ℕ} where
-  abbrev givenFields : {parts : List Part} {values : List ℕ} → Given source parts values → List Field
-  givenFields given-none = []
-  givenFields (given-letter g) = givenFields g
-  givenFields (given-number {v = v} f g) = number v ∷ givenFields g
-  givenFields (given-octets {place = place} {count = count} h f g) = octets (take count (drop place source)) ∷ givenFields g
+  abbrev given_fields : {parts : List Part} {values : List ℕ} → Given source parts values → List Field
+  given_fields given_none = []
+  given_fields (given_letter g) = given_fields g
+  given_fields (given_number {v = v} f g) = number v ∷ given_fields g
+  given_fields (given_octets {place = place} {count = count} h f g) = octets (take count (drop place source)) ∷ given_fields g
 
-  given-fields : {parts : List Part} {values : List ℕ} (g : Given source parts values) → fields_of parts values source ≡ givenFields g
+  given_fields_lem : {parts : List Part} {values : List ℕ} (g : Given source parts values) → fields_of parts values source ≡ given_fields g
   unfolding fields_of width field_of if◌then◌else◌
-  given-fields given-none = refl
-  given-fields (given-letter g) = given-fields g
-  given-fields (given-number {kind} {v} {parts} {values} f g) =
-      let e = number-field kind v values source f in
-      (λ k. e.1 k ∷ fields_of parts (drop (e.0 k) (v ∷ values)) source) ∙ ap (λ (fields : List Field). number v ∷ fields) (given-fields g)
-  given-fields (given-octets {place} {count} h f g) = ap (λ (fields : List Field). octets (take count (drop place source)) ∷ fields) (given-fields g)
+  given_fields_lem given_none = refl
+  given_fields_lem (given_letter g) = given_fields_lem g
+  given_fields_lem (given_number {kind} {v} {parts} {values} f g) =
+      let e = number_field kind v values source f in
+      (λ k. e.1 k ∷ fields_of parts (drop (e.0 k) (v ∷ values)) source) ∙ ap (λ (fields : List Field). number v ∷ fields) (given_fields_lem g)
+  given_fields_lem (given_octets {place} {count} h f g) = ap (λ (fields : List Field). octets (take count (drop place source)) ∷ fields) (given_fields_lem g)
 
-  given-filled : {parts : List Part} {values : List ℕ} (g : Given source parts values) → Filled parts (givenFields g)
+  given_filled : {parts : List Part} {values : List ℕ} (g : Given source parts values) → Filled parts (given_fields g)
   unfolding Filled
-  given-filled given-none = tt
-  given-filled (given-letter g) = given-filled g
-  given-filled (given-number f g) = (f, given-filled g)
-  given-filled (given-octets h f g) = (f, given-filled g)
+  given_filled given_none = tt
+  given_filled (given_letter g) = given_filled g
+  given_filled (given_number f g) = (f, given_filled g)
+  given_filled (given_octets h f g) = (f, given_filled g)
 
-  given-length : {parts : List Part} {values : List ℕ} (g : Given source parts values) (at : ℕ) → length (recordValues at parts (givenFields g)) ≡ length values
+  given_length : {parts : List Part} {values : List ℕ} (g : Given source parts values) (at : ℕ) → length (recordValues at parts (given_fields g)) ≡ length values
   unfolding recordValues
-  given-length given-none at = refl
-  given-length (given-letter g) at = given-length g (at + 1)
-  given-length (given-number f g) at = ap suc (given-length g _)
-  given-length (given-octets h f g) at = ap (λ (n : ℕ). suc (suc n)) (given-length g _)
+  given_length given_none at = refl
+  given_length (given_letter g) at = given_length g (at + 1)
+  given_length (given_number f g) at = ap suc (given_length g _)
+  given_length (given_octets h f g) at = ap (λ (n : ℕ). suc (suc n)) (given_length g _)
 
   -- where their texts stand in the line
-  given-found : {parts : List Part} {values : List ℕ} (g : Given source parts values) (line before : List ℕ) (at : ℕ) → at ≡ length before → line ≡ before ++ recordText parts (givenFields g)
-      → Found source line parts values (recordValues at parts (givenFields g))
+  given_found : {parts : List Part} {values : List ℕ} (g : Given source parts values) (line before : List ℕ) (at : ℕ) → at ≡ length before → line ≡ before ++ recordText parts (given_fields g)
+      → Found source line parts values (recordValues at parts (given_fields g))
   unfolding recordValues recordText
-  given-found given-none line before at p e = found_none
-  given-found (given-letter {s} {parts} g) line before at p e =
-      found-letter (given-found g line (before ++ (s ∷ [])) (at + 1) (simp length-append (omega arith)) (e ∙ sym (append_assoc before (s ∷ []) (recordText parts (givenFields g)))))
-  given-found (given-number {kind} {v} {parts} f g) line before at p e =
-      let text = fieldText kind (number v) in
-      found_number (number-not-x f) (given-found g line (before ++ text) (at + length text) (simp length-append (omega arith)) (e ∙ sym (append_assoc before text (recordText parts (givenFields g)))))
-  given-found (given-octets {place} {count} {parts} {values} h (bytes o b) g) line before at p e =
-      let text = octetsText (take count (drop place source)) in
-      let rest = recordText parts (givenFields g) in
-      let found = recordValues (at + length text) parts (givenFields g) in
-      let more : Found source line parts values found = given-found g line (before ++ text) (at + length text) (simp length-append (omega arith)) (e ∙ sym (append_assoc before text rest)) in
-      rw (at-hand place count source h) (found-octets (λ i k. (λ j. octetAt (p j + 2 * i) (e j)) ∙ octets-there place count i source before rest h o k) more)
+  given_found given_none line before at p e = found_none
+  given_found (given_letter {s} {parts} g) line before at p e =
+      found_letter (given_found g line (before ++ (s ∷ [])) (at + 1) (simp length-append (omega arith)) (e ∙ sym (append_assoc before (s ∷ []) (recordText parts (given_fields g)))))
+  given_found (given_number {kind} {v} {parts} f g) line before at p e =
+      let text = field_text kind (number v) in
+      found_number (number_not_x f) (given_found g line (before ++ text) (at + length text) (simp length-append (omega arith)) (e ∙ sym (append_assoc before text (recordText parts (given_fields g)))))
+  given_found (given_octets {place} {count} {parts} {values} h (bytes o b) g) line before at p e =
+      let text = octets_text (take count (drop place source)) in
+      let rest = recordText parts (given_fields g) in
+      let found = recordValues (at + length text) parts (given_fields g) in
+      let more : Found source line parts values found = given_found g line (before ++ text) (at + length text) (simp length-append (omega arith)) (e ∙ sym (append_assoc before text rest)) in
+      rw (at_hand place count source h) (found_octets (λ i k. (λ j. octet_at (p j + 2 * i) (e j)) ∙ octets_there place count i source before rest h o k) more)
 
 -- What is written of values that fill their gaps is read again.
-pub read-line : (form : List ℕ) {values source : List ℕ} → apart (parts_of form) ≡ true → Given source (parts_of form) values → length values ≤ mostValues
+pub read_line : (form : List ℕ) {values source : List ℕ} → apart (parts_of form) ≡ true → Given source (parts_of form) values → length values ≤ most_values
     → ReadBack form values source (line_of form values source)
 unfolding line_of
-read-line form {values} {source} a g h =
-    let fields = givenFields g in
+read_line form {values} {source} a g h =
+    let fields = given_fields g in
     let text = recordText (parts_of form) fields in
-    rw (given-fields g)
+    rw (given_fields_lem g)
     record {
       found = recordValues 0 (parts_of form) fields;
-      fits = read-written form fields a (given-filled g) (omega (arith, given-length g 0));
-      same = given-found g text [] 0 refl refl;
+      fits = read_written form fields a (given_filled g) (omega (arith, given_length g 0));
+      same = given_found g text [] 0 refl refl;
     }
 
 -- Along a form without octets the very values come back.
 abbrev pub NoOctets : List Part → Type 0
 NoOctets [] = Unit {0}
 NoOctets (letter s ∷ parts) = NoOctets parts
-NoOctets (gap kind ∷ parts) = (kind ≡ charX → ⊥) × NoOctets parts
+NoOctets (gap kind ∷ parts) = (kind ≡ char_x → ⊥) × NoOctets parts
 
 same_numbers : {source line values found : List ℕ} {parts : List Part} → Found source line parts values found → NoOctets parts → found ≡ values
 same_numbers found_none n = refl
-same_numbers (found-letter f) n = same_numbers f n
+same_numbers (found_letter f) n = same_numbers f n
 same_numbers (found_number {v = v} x f) n = ap (λ (l : List ℕ). v ∷ l) (same_numbers f n.1)
-same_numbers (found-octets there f) n = absurd (n.0 refl)
+same_numbers (found_octets there f) n = absurd (n.0 refl)
 
-pub read-numbers : (form : List ℕ) {values source : List ℕ} → apart (parts_of form) ≡ true → Given source (parts_of form) values → length values ≤ mostValues → NoOctets (parts_of form)
+pub read_numbers : (form : List ℕ) {values source : List ℕ} → apart (parts_of form) ≡ true → Given source (parts_of form) values → length values ≤ most_values → NoOctets (parts_of form)
     → recordOf form (line_of form values source) ≡ fitting values (length (line_of form values source))
-read-numbers form {values} {source} a g h n =
-    let back = read-line form a g h in
+read_numbers form {values} {source} a g h n =
+    let back = read_line form a g h in
     back.fits ∙ ap (λ (l : List ℕ). fitting l (length (line_of form values source))) (same_numbers back.same n)
 
 -- What write_record leaves in a buffer that has room for it is read likewise.
-pub read-buffer : (form : List ℕ) {values source before after : List ℕ} {place next : ℕ} → apart (parts_of form) ≡ true → Given source (parts_of form) values → length values ≤ mostValues
+pub read_buffer : (form : List ℕ) {values source before after : List ℕ} {place next : ℕ} → apart (parts_of form) ≡ true → Given source (parts_of form) values → length values ≤ most_values
     → Wrote place (line_of form values source) before next after → place + length (line_of form values source) ≤ length before
     → ReadBack form values source (take (next - place) (drop place after))
-read-buffer form a g h w room = rw (held w room).line (read-line form a g h)
+read_buffer form a g h w room = rw (held w room).line (read_line form a g h)

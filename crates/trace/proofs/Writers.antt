@@ -5,61 +5,61 @@ use mathlib.Core.List.{List, [], ◌∷◌, ◌++◌, append-nil, append_assoc}
 use native.Mathlib.Omega.{arith}
 use lib.ListN.{length, take, drop, get_or, set, length-append, length-take, length-drop, take-append-drop, drop_of_length-le}
 use lib.Seq.{length-take-le, take_all, take_at, drop_at, drop-drop}
-use Rattle.octets.proofs.Runs.{part-tail}
-use Rattle.trace.specs.Texts.{digitChar, octetsText}
-use Rattle.trace.specs.Written.{poured, pouredFrom, placeAfter, Wrote}
+use Rattle.octets.proofs.Runs.{part_tail}
+use Rattle.trace.specs.Texts.{digit_char_of, octets_text}
+use Rattle.trace.specs.Written.{poured, poured_from, place_after, Wrote}
 
-poured-nil : (text : List ℕ) → poured text [] ≡ []
+poured_nil : (text : List ℕ) → poured text [] ≡ []
 unfolding poured
-poured-nil [] = refl
-poured-nil (c ∷ text) = refl
+poured_nil [] = refl
+poured_nil (c ∷ text) = refl
 
-poured-length : (text xs : List ℕ) → length (poured text xs) ≡ length xs
+poured_length : (text xs : List ℕ) → length (poured text xs) ≡ length xs
 unfolding poured
-poured-length [] xs = refl
-poured-length (c ∷ text) [] = refl
-poured-length (c ∷ text) (x ∷ xs) = ap suc (poured-length text xs)
+poured_length [] xs = refl
+poured_length (c ∷ text) [] = refl
+poured_length (c ∷ text) (x ∷ xs) = ap suc (poured_length text xs)
 
 -- a text that the buffer has room for stands whole
-poured-whole : (text xs : List ℕ) → length text ≤ length xs → poured text xs ≡ text ++ drop (length text) xs
+poured_whole : (text xs : List ℕ) → length text ≤ length xs → poured text xs ≡ text ++ drop (length text) xs
 unfolding poured
-poured-whole [] xs h = refl
-poured-whole (c ∷ text) [] h = absurd (omega arith)
-poured-whole (c ∷ text) (x ∷ xs) h = ap (λ (l : List ℕ). c ∷ l) (poured-whole text xs (omega arith))
+poured_whole [] xs h = refl
+poured_whole (c ∷ text) [] h = absurd (omega arith)
+poured_whole (c ∷ text) (x ∷ xs) h = ap (λ (l : List ℕ). c ∷ l) (poured_whole text xs (omega arith))
 
-from-length : (p : ℕ) (text xs : List ℕ) → length (pouredFrom p text xs) ≡ length xs
-unfolding pouredFrom
-from-length p text xs = simp (length-append, length-take, poured-length, length-drop) (omega arith)
+from_length : (p : ℕ) (text xs : List ℕ) → length (poured_from p text xs) ≡ length xs
+unfolding poured_from
+from_length p text xs = simp (length-append, length-take, poured_length, length-drop) (omega arith)
 
 -- past the buffer's end nothing is written
-from_past : (p : ℕ) (text xs : List ℕ) → length xs ≤ p → pouredFrom p text xs ≡ xs
-unfolding pouredFrom
-from_past p text xs h = rw (drop_of_length-le xs h, poured-nil text, append-nil) (take_all p xs h)
+from_past : (p : ℕ) (text xs : List ℕ) → length xs ≤ p → poured_from p text xs ≡ xs
+unfolding poured_from
+from_past p text xs h = rw (drop_of_length-le xs h, poured_nil text, append-nil) (take_all p xs h)
 
 -- what follows a text goes behind it
-poured-row : (a b xs : List ℕ) (r : ℕ) → r ≡ min (length a) (length xs) → pouredFrom r b (poured a xs) ≡ poured (a ++ b) xs
-unfolding pouredFrom poured
-poured-row [] b xs zero e = refl
-poured-row [] b xs (suc r) e = absurd (omega arith)
-poured-row (c ∷ a) b [] zero e = poured-nil b
-poured-row (c ∷ a) b [] (suc r) e = absurd (omega arith)
-poured-row (c ∷ a) b (x ∷ xs) zero e = absurd (omega arith)
-poured-row (c ∷ a) b (x ∷ xs) (suc r) e = ap (λ (l : List ℕ). c ∷ l) (poured-row a b xs r (omega arith))
+poured_row : (a b xs : List ℕ) (r : ℕ) → r ≡ min (length a) (length xs) → poured_from r b (poured a xs) ≡ poured (a ++ b) xs
+unfolding poured_from poured
+poured_row [] b xs zero e = refl
+poured_row [] b xs (suc r) e = absurd (omega arith)
+poured_row (c ∷ a) b [] zero e = poured_nil b
+poured_row (c ∷ a) b [] (suc r) e = absurd (omega arith)
+poured_row (c ∷ a) b (x ∷ xs) zero e = absurd (omega arith)
+poured_row (c ∷ a) b (x ∷ xs) (suc r) e = ap (λ (l : List ℕ). c ∷ l) (poured_row a b xs r (omega arith))
 
-from_row : (p : ℕ) (a b xs : List ℕ) (r : ℕ) → r ≡ placeAfter p a xs → pouredFrom r b (pouredFrom p a xs) ≡ pouredFrom p (a ++ b) xs
-unfolding pouredFrom
-from_row zero a b xs r e = poured-row a b xs r (omega arith)
+from_row : (p : ℕ) (a b xs : List ℕ) (r : ℕ) → r ≡ place_after p a xs → poured_from r b (poured_from p a xs) ≡ poured_from p (a ++ b) xs
+unfolding poured_from
+from_row zero a b xs r e = poured_row a b xs r (omega arith)
 from_row (suc p) a b [] r e =
-    let n : [] ≡ pouredFrom (suc p) a [] = sym (poured-nil a) in
-    sym (ap (pouredFrom r b) n) ∙ from_past r b [] (omega arith) ∙ sym (poured-nil (a ++ b))
+    let n : [] ≡ poured_from (suc p) a [] = sym (poured_nil a) in
+    sym (ap (poured_from r b) n) ∙ from_past r b [] (omega arith) ∙ sym (poured_nil (a ++ b))
 from_row (suc p) a b (x ∷ xs) zero e = absurd (omega arith)
 from_row (suc p) a b (x ∷ xs) (suc r) e = ap (λ (l : List ℕ). x ∷ l) (from_row p a b xs r (omega arith))
 
 -- ---- what is still to be written: `rest` from r on, over ys, gives what `text` from p on, over xs, gives
 pub record Onward (p : ℕ) (text xs : List ℕ) (r : ℕ) (rest ys : List ℕ) : Type 0 where
   pub size : length ys ≡ length xs
-  pub ends : placeAfter p text xs ≡ placeAfter r rest ys
-  pub bytes : pouredFrom p text xs ≡ pouredFrom r rest ys
+  pub ends : place_after p text xs ≡ place_after r rest ys
+  pub bytes : poured_from p text xs ≡ poured_from r rest ys
 
 pub whole : {p : ℕ} {text xs : List ℕ} → Onward p text xs p text xs
 whole = record { size = refl; ends = refl; bytes = refl }
@@ -68,14 +68,14 @@ pub onward : {p r s : ℕ} {text a b c xs ys zs : List ℕ} → Onward p text xs
 onward {p} {r} {s} {text} {a} {b} {c} {xs} {ys} {zs} o w e = record {
   size = kept ∙ o.size;
   ends = o.ends ∙ omega (arith, ap length e ∙ length-append a b, w.ends, kept);
-  bytes = o.bytes ∙ ap (λ (l : List ℕ). pouredFrom r l ys) e ∙ sym (ap (pouredFrom s b) w.bytes ∙ from_row r a b ys s w.ends);
+  bytes = o.bytes ∙ ap (λ (l : List ℕ). poured_from r l ys) e ∙ sym (ap (poured_from s b) w.bytes ∙ from_row r a b ys s w.ends);
 }
   where
     kept : length zs ≡ length ys
-    kept = ap length w.bytes ∙ from-length r a ys
+    kept = ap length w.bytes ∙ from_length r a ys
 
 pub written : {p r : ℕ} {text xs ys : List ℕ} → Onward p text xs r [] ys → Wrote p text xs r ys
-unfolding pouredFrom poured
+unfolding poured_from poured
 written {p} {r} {text} {xs} {ys} o = record {
   ends = sym (o.ends ∙ omega arith);
   bytes = sym (o.bytes ∙ take-append-drop r ys);
@@ -96,7 +96,7 @@ pub record Held (p : ℕ) (text xs : List ℕ) (r : ℕ) (ys : List ℕ) : Type 
   pub behind : drop r ys ≡ drop r xs
 
 pub held : {p r : ℕ} {text xs ys : List ℕ} → Wrote p text xs r ys → p + length text ≤ length xs → Held p text xs r ys
-unfolding pouredFrom
+unfolding poured_from
 held {p} {r} {text} {xs} {ys} w h = record {
   next = next;
   before = ap (take p) all ∙ take_at (take p xs) (text ++ drop r xs) p size;
@@ -115,14 +115,14 @@ held {p} {r} {text} {xs} {ys} w h = record {
 
     all : ys ≡ take p xs ++ (text ++ drop r xs)
     all = w.bytes ∙ ap (λ (l : List ℕ). take p xs ++ l)
-        (poured-whole text (drop p xs) (simp length-drop (omega arith)) ∙ ap (λ (l : List ℕ). text ++ l) (drop-drop (length text) p xs ∙ ap (λ (i : ℕ). drop i xs) (sym next)))
+        (poured_whole text (drop p xs) (simp length-drop (omega arith)) ∙ ap (λ (l : List ℕ). text ++ l) (drop-drop (length text) p xs ∙ ap (λ (i : ℕ). drop i xs) (sym next)))
 
 -- ---- one character
 pub past : {p : ℕ} {xs : List ℕ} (text : List ℕ) → length xs ≤ p → Wrote p text xs p xs
 past {p} {xs} text h = record { ends = omega arith; bytes = sym (from_past p text xs h) }
 
-from_one : (p c : ℕ) (xs : List ℕ) → p < length xs → set xs p c ≡ pouredFrom p (c ∷ []) xs
-unfolding pouredFrom poured
+from_one : (p c : ℕ) (xs : List ℕ) → p < length xs → set xs p c ≡ poured_from p (c ∷ []) xs
+unfolding poured_from poured
 from_one p c [] h = absurd (omega arith)
 from_one zero c (x ∷ xs) h = refl
 from_one (suc p) c (x ∷ xs) h = ap (λ (l : List ℕ). x ∷ l) (from_one p c xs (omega arith))
@@ -131,20 +131,20 @@ pub one : {p : ℕ} {xs : List ℕ} (c : ℕ) → p < length xs → Wrote p (c �
 one {p} {xs} c h = record { ends = omega arith; bytes = from_one p c xs h }
 
 -- ---- a text by its first character, octets by their first
-pub chars-step : (t : List ℕ) → 0 < length t → t ≡ (get_or t 0 0 ∷ []) ++ take (length t - 1) (drop 1 t)
-chars-step [] h = absurd (omega arith)
-chars-step (c ∷ t) h = ap (λ (l : List ℕ). c ∷ l) (sym (part-tail 1 (c ∷ t)))
+pub chars_step : (t : List ℕ) → 0 < length t → t ≡ (get_or t 0 0 ∷ []) ++ take (length t - 1) (drop 1 t)
+chars_step [] h = absurd (omega arith)
+chars_step (c ∷ t) h = ap (λ (l : List ℕ). c ∷ l) (sym (part_tail 1 (c ∷ t)))
 
-pub octets-step : (t : List ℕ) → 0 < length t → octetsText t ≡ (digitChar (get_or t 0 0 / 16) ∷ digitChar (get_or t 0 0 % 16) ∷ []) ++ octetsText (take (length t - 1) (drop 1 t))
-unfolding octetsText
-octets-step [] h = absurd (omega arith)
-octets-step (o ∷ t) h = ap (λ (l : List ℕ). digitChar (o / 16) ∷ digitChar (o % 16) ∷ octetsText l) (sym (part-tail 1 (o ∷ t)))
+pub octets_step : (t : List ℕ) → 0 < length t → octets_text t ≡ (digit_char_of (get_or t 0 0 / 16) ∷ digit_char_of (get_or t 0 0 % 16) ∷ []) ++ octets_text (take (length t - 1) (drop 1 t))
+unfolding octets_text
+octets_step [] h = absurd (omega arith)
+octets_step (o ∷ t) h = ap (λ (l : List ℕ). digit_char_of (o / 16) ∷ digit_char_of (o % 16) ∷ octets_text l) (sym (part_tail 1 (o ∷ t)))
 
-pub written-chars : {p r : ℕ} {text xs t ys : List ℕ} → Onward p text xs r t ys → length t ≤ 0 → Wrote p text xs r ys
-written-chars {t = []} o h = written o
-written-chars {t = c ∷ t} o h = absurd (omega arith)
+pub written_chars : {p r : ℕ} {text xs t ys : List ℕ} → Onward p text xs r t ys → length t ≤ 0 → Wrote p text xs r ys
+written_chars {t = []} o h = written o
+written_chars {t = c ∷ t} o h = absurd (omega arith)
 
-pub written-octets : {p r : ℕ} {text xs ys : List ℕ} (t : List ℕ) → Onward p text xs r (octetsText t) ys → length t ≤ 0 → Wrote p text xs r ys
-unfolding octetsText
-written-octets [] o h = written o
-written-octets (c ∷ t) o h = absurd (omega arith)
+pub written_octets : {p r : ℕ} {text xs ys : List ℕ} (t : List ℕ) → Onward p text xs r (octets_text t) ys → length t ≤ 0 → Wrote p text xs r ys
+unfolding octets_text
+written_octets [] o h = written o
+written_octets (c ∷ t) o h = absurd (omega arith)

@@ -5,8 +5,8 @@ use Rattle.octets.specs.declared.number.MaybeNumber.{MaybeNumber}
 use Rattle.octets.specs.declared.number.MaybeNumber.TheVariants.{None, Some}
 
 -- The value of a digit, by its character: 48 to 57 are 0 to 9, 97 to 102 are a to f. 16 for any other character.
-unfoldable pub digitOf : ℕ → ℕ
-digitOf c =
+unfoldable pub digit_of : ℕ → ℕ
+digit_of c =
     if ltb c 48 then 16
     else if ltb c 58 then c - 48
     else if ltb c 97 then 16
@@ -14,27 +14,27 @@ digitOf c =
     else 16
 
 -- The octet that two digits are.
-unfoldable pub octetOf : ℕ → ℕ → MaybeNumber
-octetOf a b =
-    if ltb (digitOf a) 16 then (if ltb (digitOf b) 16 then Some (digitOf a * 16 + digitOf b) else None)
+unfoldable pub octet_of : ℕ → ℕ → MaybeNumber
+octet_of a b =
+    if ltb (digit_of a) 16 then (if ltb (digit_of b) 16 then Some (digit_of a * 16 + digit_of b) else None)
     else None
 
 -- The octet that a text begins with.
-unfoldable pub firstOctet : List ℕ → MaybeNumber
-firstOctet [] = None
-firstOctet (a ∷ []) = None
-firstOctet (a ∷ b ∷ text) = octetOf a b
+unfoldable pub first_octet : List ℕ → MaybeNumber
+first_octet [] = None
+first_octet (a ∷ []) = None
+first_octet (a ∷ b ∷ text) = octet_of a b
 
 -- The octet at a place of a line.
-abbrev pub octetAt : ℕ → List ℕ → MaybeNumber
-octetAt place line = firstOctet (drop place line)
+abbrev pub octet_at : ℕ → List ℕ → MaybeNumber
+octet_at place line = first_octet (drop place line)
 
 -- How many octets a text begins with, one after another.
-unfoldable pub pairsOf : List ℕ → ℕ
-pairsOf [] = 0
-pairsOf (a ∷ []) = 0
-pairsOf (a ∷ b ∷ text) =
-    elim (octetOf a b) [
+unfoldable pub pairs_of : List ℕ → ℕ
+pairs_of [] = 0
+pairs_of (a ∷ []) = 0
+pairs_of (a ∷ b ∷ text) =
+    elim (octet_of a b) [
       | None ↦ 0
-      | Some octet ↦ suc (pairsOf text)
+      | Some octet ↦ suc (pairs_of text)
     ]

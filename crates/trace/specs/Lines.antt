@@ -3,27 +3,27 @@ use Rattle.std.specs.Prelude.{ℕ, suc, ◌+◌, ◌-◌, min, Bool, true, false
 use Rattle.choice.specs.Choice.{if◌then◌else◌}
 
 -- LF.
-abbrev pub lineEnd : ℕ
-lineEnd = 10
+abbrev pub line_end : ℕ
+line_end = 10
 
 -- The length of a text's first line: what stands before the first LF, all where there is none.
-unfoldable pub lineLength : List ℕ → ℕ
-lineLength [] = 0
-lineLength (c ∷ text) = if eqb c lineEnd then 0 else suc (lineLength text)
+unfoldable pub line_length : List ℕ → ℕ
+line_length [] = 0
+line_length (c ∷ text) = if eqb c line_end then 0 else suc (line_length text)
 
 -- The line that begins at a place, without its LF.
 unfoldable pub line_at : ℕ → List ℕ → List ℕ
-line_at at text = take (lineLength (drop at text)) (drop at text)
+line_at at text = take (line_length (drop at text)) (drop at text)
 
 -- Where the next line begins: behind the LF, at the text's end where there is none. A place behind the end stays.
-abbrev pub afterLine : ℕ → List ℕ → ℕ
-afterLine at text = at + min (lineLength (drop at text) + 1) (length text - at)
+abbrev pub after_line : ℕ → List ℕ → ℕ
+after_line at text = at + min (line_length (drop at text) + 1) (length text - at)
 
 -- Whether a line begins with these characters.
-unfoldable pub beginsWith : List ℕ → List ℕ → Bool
-beginsWith [] line = true
-beginsWith (s ∷ start) [] = false
-beginsWith (s ∷ start) (c ∷ line) = if eqb s c then beginsWith start line else false
+unfoldable pub begins_with : List ℕ → List ℕ → Bool
+begins_with [] line = true
+begins_with (s ∷ start) [] = false
+begins_with (s ∷ start) (c ∷ line) = if eqb s c then begins_with start line else false
 
 -- Whether a text begins with this character.
 unfoldable pub starts_with : ℕ → List ℕ → Bool

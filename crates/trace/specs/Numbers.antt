@@ -2,19 +2,19 @@
 use Rattle.std.specs.Prelude.{ℕ, ◌+◌, ◌*◌, ◌≤◌, Bool, true, false, List, [], ◌∷◌, length, drop, eqb, ltb, leb}
 use Rattle.choice.specs.Choice.{if◌then◌else◌}
 use Rattle.trace.specs.Lines.{starts_with}
-use Rattle.trace.specs.Digits.{digitOf}
+use Rattle.trace.specs.Digits.{digit_of}
 use Rattle.trace.specs.declared.number.Number.{Number}
 use Rattle.trace.specs.declared.number.Number.TheVariants.{Stopped, Read}
 
 -- The decimal digits that a text begins with, by their values.
-unfoldable pub digitsOf : List ℕ → List ℕ
-digitsOf [] = []
-digitsOf (c ∷ text) = if ltb (digitOf c) 10 then digitOf c ∷ digitsOf text else []
+unfoldable pub digits_of : List ℕ → List ℕ
+digits_of [] = []
+digits_of (c ∷ text) = if ltb (digit_of c) 10 then digit_of c ∷ digits_of text else []
 
 -- The number whose digits are those of `high` and then these.
-unfoldable pub numberFrom : ℕ → List ℕ → ℕ
-numberFrom high [] = high
-numberFrom high (d ∷ ds) = numberFrom (high * 10 + d) ds
+unfoldable pub number_from : ℕ → List ℕ → ℕ
+number_from high [] = high
+number_from high (d ∷ ds) = number_from (high * 10 + d) ds
 
 -- Whether digits are a number as it is written: at least one, and no zero before others.
 unfoldable pub proper : List ℕ → Bool
@@ -24,12 +24,12 @@ proper (d ∷ e ∷ ds) = if eqb d 0 then false else true
 
 -- The number that digits write, with their count, if it is at most `most`.
 unfoldable pub within : ℕ → List ℕ → Number
-within most ds = if leb (numberFrom 0 ds) most then Read (numberFrom 0 ds) (length ds) else Stopped 0
+within most ds = if leb (number_from 0 ds) most then Read (number_from 0 ds) (length ds) else Stopped 0
 
 -- The number of at most `most` that a text begins with. It ends where no digit follows. Where there is none, reading
 -- stops where the number would begin.
 unfoldable pub decimal : ℕ → List ℕ → Number
-decimal most text = if proper (digitsOf text) then within most (digitsOf text) else Stopped 0
+decimal most text = if proper (digits_of text) then within most (digits_of text) else Stopped 0
 
 -- One number more of an address, behind `size` characters that give `high`.
 abbrev pub joined : ℕ → ℕ → Number → Number

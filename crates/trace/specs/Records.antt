@@ -6,8 +6,8 @@ use Rattle.trace.specs.declared.gap.Taken.TheVariants.{Stopped, Letter, Value, O
 use Rattle.trace.specs.declared.record.Record.{Record}
 
 -- A record has at most so many values.
-abbrev pub mostValues : ℕ
-mostValues = 16
+abbrev pub most_values : ℕ
+most_values = 16
 
 -- The first n of a list, zeros after them.
 abbrev pub padded : ℕ → List ℕ → List ℕ
@@ -17,11 +17,11 @@ padded (suc n) (x ∷ xs) = x ∷ padded n xs
 
 -- A line that fits its form, with its values and its length.
 unfoldable pub fitting : List ℕ → ℕ → Record
-fitting values size = record { values = padded mostValues values; count = length values; column = size; fits = true }
+fitting values size = record { values = padded most_values values; count = length values; column = size; fits = true }
 
 -- A line that departs from its form at a place.
 unfoldable pub misfit : ℕ → Record
-misfit column = record { values = padded mostValues []; count = 0; column = column; fits = false }
+misfit column = record { values = padded most_values []; count = 0; column = column; fits = false }
 
 -- The walk along the parts of a form that are still to come, with the values that were read, the place in the line and
 -- the rest of the line. Octets give two values: the place of their first digit, and how many they are. A gap for whose
@@ -34,10 +34,10 @@ walk (part ∷ parts) values place line =
       | Stopped size ↦ misfit (place + size)
       | Letter ↦ walk parts values (place + 1) (drop 1 line)
       | Value value size ↦
-          if leb (length values + 1) mostValues then walk parts (values ++ (value ∷ [])) (place + size) (drop size line)
+          if leb (length values + 1) most_values then walk parts (values ++ (value ∷ [])) (place + size) (drop size line)
           else misfit place
       | Octets count ↦
-          if leb (length values + 2) mostValues then walk parts (values ++ (place ∷ count ∷ [])) (place + 2 * count) (drop (2 * count) line)
+          if leb (length values + 2) most_values then walk parts (values ++ (place ∷ count ∷ [])) (place + 2 * count) (drop (2 * count) line)
           else misfit place
     ]
 

@@ -2,68 +2,68 @@
 use Rattle.std.specs.Prelude.{ℕ, zero, suc, ◌+◌, ◌/◌, ◌%◌, ◌≤◌, ◌<◌, Bool, true, false, List, [], ◌∷◌, ◌++◌, ◌≡◌, length, eqb, ltb}
 use Rattle.choice.specs.Choice.{if◌then◌else◌}
 use Rattle.octets.specs.Words.{bytes32}
-use Rattle.trace.specs.Digits.{digitOf}
+use Rattle.trace.specs.Digits.{digit_of}
 use Rattle.trace.specs.Numbers.{dot}
-use Rattle.trace.specs.Forms.{charA, charX, Part, letter, gap, limitOf}
+use Rattle.trace.specs.Forms.{char_a, char_x, Part, letter, gap, limit_of}
 use Rattle.trace.specs.declared.gap.Limit.TheVariants.{Most}
 
 -- The character of a digit, and the text of several.
-unfoldable pub digitChar : ℕ → ℕ
-digitChar d = if ltb d 10 then 48 + d else 87 + d
+unfoldable pub digit_char_of : ℕ → ℕ
+digit_char_of d = if ltb d 10 then 48 + d else 87 + d
 
-unfoldable pub charsOf : List ℕ → List ℕ
-charsOf [] = []
-charsOf (d ∷ ds) = digitChar d ∷ charsOf ds
+unfoldable pub chars_of : List ℕ → List ℕ
+chars_of [] = []
+chars_of (d ∷ ds) = digit_char_of d ∷ chars_of ds
 
 -- The digits of a number, of which there are at most one more than k.
-unfoldable pub decimalDigits : ℕ → ℕ → List ℕ
-decimalDigits zero n = n ∷ []
-decimalDigits (suc k) n = if ltb n 10 then n ∷ [] else decimalDigits k (n / 10) ++ (n % 10 ∷ [])
+unfoldable pub decimal_digits : ℕ → ℕ → List ℕ
+decimal_digits zero n = n ∷ []
+decimal_digits (suc k) n = if ltb n 10 then n ∷ [] else decimal_digits k (n / 10) ++ (n % 10 ∷ [])
 
 -- A number in decimal: 64 bits need at most 20 digits.
-abbrev pub decimalText : ℕ → List ℕ
-decimalText n = charsOf (decimalDigits 19 n)
+abbrev pub decimal_text : ℕ → List ℕ
+decimal_text n = chars_of (decimal_digits 19 n)
 
 -- Numbers with dots between them, and an address.
-unfoldable pub dottedText : List ℕ → List ℕ
-dottedText [] = []
-dottedText (n ∷ []) = decimalText n
-dottedText (n ∷ m ∷ ns) = decimalText n ++ (dot ∷ dottedText (m ∷ ns))
+unfoldable pub dotted_text : List ℕ → List ℕ
+dotted_text [] = []
+dotted_text (n ∷ []) = decimal_text n
+dotted_text (n ∷ m ∷ ns) = decimal_text n ++ (dot ∷ dotted_text (m ∷ ns))
 
-abbrev pub addressText : ℕ → List ℕ
-addressText v = dottedText (bytes32 v)
+abbrev pub address_text : ℕ → List ℕ
+address_text v = dotted_text (bytes32 v)
 
 -- Octets, two digits each.
-unfoldable pub octetsText : List ℕ → List ℕ
-octetsText [] = []
-octetsText (o ∷ os) = digitChar (o / 16) ∷ digitChar (o % 16) ∷ octetsText os
+unfoldable pub octets_text : List ℕ → List ℕ
+octets_text [] = []
+octets_text (o ∷ os) = digit_char_of (o / 16) ∷ digit_char_of (o % 16) ∷ octets_text os
 
 -- What fills a gap: a number, which may be an address, or octets.
 pub data Field : Type 0 where
   number : ℕ → Field
   octets : List ℕ → Field
 
-abbrev pub fieldText : ℕ → Field → List ℕ
-fieldText kind (number v) = if eqb kind charA then addressText v else decimalText v
-fieldText kind (octets os) = octetsText os
+abbrev pub field_text : ℕ → Field → List ℕ
+field_text kind (number v) = if eqb kind char_a then address_text v else decimal_text v
+field_text kind (octets os) = octets_text os
 
 -- The parts of a form with their gaps filled, in order.
 unfoldable pub recordText : List Part → List Field → List ℕ
 recordText [] fields = []
 recordText (letter s ∷ parts) fields = s ∷ recordText parts fields
 recordText (gap kind ∷ parts) [] = []
-recordText (gap kind ∷ parts) (field ∷ fields) = fieldText kind field ++ recordText parts fields
+recordText (gap kind ∷ parts) (field ∷ fields) = field_text kind field ++ recordText parts fields
 
 -- The values that a reader finds in that text, from a place of the line on.
-abbrev pub fieldValues : ℕ → Field → List ℕ
-fieldValues place (number v) = v ∷ []
-fieldValues place (octets os) = place ∷ length os ∷ []
+abbrev pub field_values : ℕ → Field → List ℕ
+field_values place (number v) = v ∷ []
+field_values place (octets os) = place ∷ length os ∷ []
 
 unfoldable pub recordValues : ℕ → List Part → List Field → List ℕ
 recordValues place [] fields = []
 recordValues place (letter s ∷ parts) fields = recordValues (place + 1) parts fields
 recordValues place (gap kind ∷ parts) [] = []
-recordValues place (gap kind ∷ parts) (field ∷ fields) = fieldValues place field ++ recordValues (place + length (fieldText kind field)) parts fields
+recordValues place (gap kind ∷ parts) (field ∷ fields) = field_values place field ++ recordValues (place + length (field_text kind field)) parts fields
 
 -- Whether each of a list is an octet.
 abbrev pub AllOctets : List ℕ → Type 0
@@ -72,9 +72,9 @@ AllOctets (o ∷ os) = (o < 256) × AllOctets os
 
 -- What a gap can be filled with: its limit says which numbers; %a is any number of 32 bits, %x at most 65,535 octets.
 pub data Fills : ℕ → Field → Type 0 where
-  decimals : {kind most v : ℕ} → limitOf kind ≡ Most most → v ≤ most → Fills kind (number v)
-  addresses : {v : ℕ} → v < 4294967296 → Fills charA (number v)
-  bytes : {os : List ℕ} → AllOctets os → length os ≤ 65535 → Fills charX (octets os)
+  decimals : {kind most v : ℕ} → limit_of kind ≡ Most most → v ≤ most → Fills kind (number v)
+  addresses : {v : ℕ} → v < 4294967296 → Fills char_a (number v)
+  bytes : {os : List ℕ} → AllOctets os → length os ≤ 65535 → Fills char_x (octets os)
 
 -- Each gap of a form's parts is filled, and nothing is left.
 unfoldable pub Filled : List Part → List Field → Type 0
@@ -90,4 +90,4 @@ apart [] = true
 apart (letter s ∷ parts) = apart parts
 apart (gap kind ∷ []) = true
 apart (gap kind ∷ gap other ∷ parts) = false
-apart (gap kind ∷ letter s ∷ parts) = if ltb (digitOf s) 16 then false else apart parts
+apart (gap kind ∷ letter s ∷ parts) = if ltb (digit_of s) 16 then false else apart parts

@@ -2,10 +2,10 @@
 use Rattle.std.specs.Prelude.{ℕ, ◌+◌, ◌-◌, ◌*◌, ◌≤◌, ◌<◌, min, ◌≡◌, List, [], ◌∷◌, ◌++◌, length, take, drop, get_or, eqb}
 use Rattle.choice.specs.Choice.{if◌then◌else◌}
 use Rattle.octets.specs.declared.number.MaybeNumber.TheVariants.{Some}
-use Rattle.trace.specs.Digits.{octetAt}
-use Rattle.trace.specs.Forms.{charX, Part, letter, gap, parts_of}
+use Rattle.trace.specs.Digits.{octet_at}
+use Rattle.trace.specs.Forms.{char_x, Part, letter, gap, parts_of}
 use Rattle.trace.specs.Records.{fitting, recordOf}
-use Rattle.trace.specs.Texts.{Field, number, octets, fieldText, recordText, Fills}
+use Rattle.trace.specs.Texts.{Field, number, octets, field_text, recordText, Fills}
 
 -- A text over the start of a buffer, cut where the buffer ends.
 unfoldable pub poured : List ℕ → List ℕ → List ℕ
@@ -14,25 +14,25 @@ poured (c ∷ text) [] = []
 poured (c ∷ text) (b ∷ buffer) = c ∷ poured text buffer
 
 -- The buffer with a text from a place on, and the place behind the text.
-unfoldable pub pouredFrom : ℕ → List ℕ → List ℕ → List ℕ
-pouredFrom place text buffer = take place buffer ++ poured text (drop place buffer)
+unfoldable pub poured_from : ℕ → List ℕ → List ℕ → List ℕ
+poured_from place text buffer = take place buffer ++ poured text (drop place buffer)
 
-abbrev pub placeAfter : ℕ → List ℕ → List ℕ → ℕ
-placeAfter place text buffer = place + min (length text) (length buffer - place)
+abbrev pub place_after : ℕ → List ℕ → List ℕ → ℕ
+place_after place text buffer = place + min (length text) (length buffer - place)
 
 -- A writer's contract: from a buffer to the place behind its text and the buffer after it.
 pub record Wrote (place : ℕ) (text before : List ℕ) (next : ℕ) (after : List ℕ) : Type 0 where
-  pub ends : next ≡ placeAfter place text before
-  pub bytes : after ≡ pouredFrom place text before
+  pub ends : next ≡ place_after place text before
+  pub bytes : after ≡ poured_from place text before
 
 -- How many values a gap takes: %x two, the place of its first octet among the octets at hand and how many they are.
 unfoldable pub width : ℕ → ℕ
-width kind = if eqb kind charX then 2 else 1
+width kind = if eqb kind char_x then 2 else 1
 
 -- What fills a gap. A value that is missing is 0, an octet that is missing is left out.
 unfoldable pub field_of : ℕ → List ℕ → List ℕ → Field
 field_of kind values source =
-    if eqb kind charX then octets (take (get_or values 1 0) (drop (get_or values 0 0) source))
+    if eqb kind char_x then octets (take (get_or values 1 0) (drop (get_or values 0 0) source))
     else number (get_or values 0 0)
 
 -- What fills the gaps of a form's parts, in order.
@@ -46,9 +46,9 @@ unfoldable pub line_of : List ℕ → List ℕ → List ℕ → List ℕ
 line_of form values source = recordText (parts_of form) (fields_of (parts_of form) values source)
 
 -- For contracts within this crate: the text of a form's part, and how many values it takes.
-abbrev pub partText : Part → List ℕ → List ℕ → List ℕ
-partText (letter s) values source = s ∷ []
-partText (gap kind) values source = fieldText kind (field_of kind values source)
+abbrev pub part_text : Part → List ℕ → List ℕ → List ℕ
+part_text (letter s) values source = s ∷ []
+part_text (gap kind) values source = field_text kind (field_of kind values source)
 
 abbrev pub part_width : Part → ℕ
 part_width (letter s) = 0
@@ -56,20 +56,20 @@ part_width (gap kind) = width kind
 
 -- What a form asks: for each gap a number that fills it, or the place and the count of octets that are at hand and fill it.
 pub data Given (source : List ℕ) : List Part → List ℕ → Type 0 where
-  given-none : Given source [] []
-  given-letter : {s : ℕ} {parts : List Part} {values : List ℕ} → Given source parts values → Given source (letter s ∷ parts) values
-  given-number : {kind v : ℕ} {parts : List Part} {values : List ℕ} → Fills kind (number v) → Given source parts values → Given source (gap kind ∷ parts) (v ∷ values)
-  given-octets : {place count : ℕ} {parts : List Part} {values : List ℕ} → place + count ≤ length source → Fills charX (octets (take count (drop place source)))
-      → Given source parts values → Given source (gap charX ∷ parts) (place ∷ count ∷ values)
+  given_none : Given source [] []
+  given_letter : {s : ℕ} {parts : List Part} {values : List ℕ} → Given source parts values → Given source (letter s ∷ parts) values
+  given_number : {kind v : ℕ} {parts : List Part} {values : List ℕ} → Fills kind (number v) → Given source parts values → Given source (gap kind ∷ parts) (v ∷ values)
+  given_octets : {place count : ℕ} {parts : List Part} {values : List ℕ} → place + count ≤ length source → Fills char_x (octets (take count (drop place source)))
+      → Given source parts values → Given source (gap char_x ∷ parts) (place ∷ count ∷ values)
 
 -- What a reader finds in the line: the numbers as they were given, and places in the line at which the octets stand.
 pub data Found (source line : List ℕ) : List Part → List ℕ → List ℕ → Type 0 where
   found_none : Found source line [] [] []
-  found-letter : {s : ℕ} {parts : List Part} {values found : List ℕ} → Found source line parts values found → Found source line (letter s ∷ parts) values found
-  found_number : {kind v : ℕ} {parts : List Part} {values found : List ℕ} → (kind ≡ charX → ⊥) → Found source line parts values found → Found source line (gap kind ∷ parts) (v ∷ values) (v ∷ found)
-  found-octets : {place at count : ℕ} {parts : List Part} {values found : List ℕ}
-      → ((i : ℕ) → i < count → octetAt (at + 2 * i) line ≡ Some (get_or source (place + i) 0))
-      → Found source line parts values found → Found source line (gap charX ∷ parts) (place ∷ count ∷ values) (at ∷ count ∷ found)
+  found_letter : {s : ℕ} {parts : List Part} {values found : List ℕ} → Found source line parts values found → Found source line (letter s ∷ parts) values found
+  found_number : {kind v : ℕ} {parts : List Part} {values found : List ℕ} → (kind ≡ char_x → ⊥) → Found source line parts values found → Found source line (gap kind ∷ parts) (v ∷ values) (v ∷ found)
+  found_octets : {place at count : ℕ} {parts : List Part} {values found : List ℕ}
+      → ((i : ℕ) → i < count → octet_at (at + 2 * i) line ≡ Some (get_or source (place + i) 0))
+      → Found source line parts values found → Found source line (gap char_x ∷ parts) (place ∷ count ∷ values) (at ∷ count ∷ found)
 
 -- A line that fits its form and gives back what was given.
 pub record ReadBack (form values source line : List ℕ) : Type 0 where

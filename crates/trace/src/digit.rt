@@ -1,12 +1,12 @@
 // Digits, and octets that are written as two digits each.
 ghost use Rattle.std.specs.Prelude.{◌≡◌};
-ghost use Rattle.trace.specs.Digits.{digitOf, octetOf, octetAt, pairsOf};
+ghost use Rattle.trace.specs.Digits.{digit_of, octet_of, octet_at, pairs_of};
 
 use octets::MaybeNumber;
 
 // The value of a digit, 16 for a character that is no digit.
 pub(crate) fn digit(c: u8) -> u32
-    ensures { result ≡ digitOf c }
+    ensures { result ≡ digit_of c }
 {
     if c < 48 {
         return 16;
@@ -25,7 +25,7 @@ pub(crate) fn digit(c: u8) -> u32
 
 // The octet of two digits.
 fn octet(a: u8, b: u8) -> MaybeNumber
-    ensures { result ≡ octetOf a b }
+    ensures { result ≡ octet_of a b }
 {
     let high = digit(a);
     if 16 <= high {
@@ -40,7 +40,7 @@ fn octet(a: u8, b: u8) -> MaybeNumber
 
 // The octet whose two digits stand at a place of a line, none where there are no two digits.
 pub fn octet_at(line: &[u8], place: usize) -> MaybeNumber
-    ensures { result ≡ octetAt place line.now }
+    ensures { result ≡ octet_at place line.now }
 {
     if line.len() < 2 {
         return MaybeNumber::None;
@@ -53,7 +53,7 @@ pub fn octet_at(line: &[u8], place: usize) -> MaybeNumber
 
 // How many octets a text begins with.
 pub(crate) fn pair_count(text: &[u8]) -> usize
-    ensures { result ≡ pairsOf text.now }
+    ensures { result ≡ pairs_of text.now }
 {
     let mut t = text;
     let mut n: usize = 0;

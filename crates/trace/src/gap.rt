@@ -1,6 +1,6 @@
 // What a form asks next, and what it takes of a text: a character that stands as it is, or the value of a gap.
 ghost use Rattle.std.specs.Prelude.{◌≡◌, ◌<◌, length};
-ghost use Rattle.trace.specs.Forms.{limitOf, number_of, ofNumber, octetsTaken, letterTaken, gapTaken, taken, headPart, partSize};
+ghost use Rattle.trace.specs.Forms.{limit_of, number_of, of_number, octets_taken, letterTaken, gap_taken, taken, head_part, part_size};
 
 use crate::digit::pair_count;
 use crate::line::starts;
@@ -31,7 +31,7 @@ const MOST_OCTETS: usize = 65535;
 
 // The largest number of a decimal gap.
 fn limit_of(kind: u8) -> Limit
-    ensures { result ≡ limitOf kind }
+    ensures { result ≡ limit_of kind }
 {
     if kind == b'b' {
         return Limit::Most(1);
@@ -66,7 +66,7 @@ fn number_of(kind: u8, text: &[u8]) -> Number
 
 // A number as what is taken.
 fn of_number(number: Number) -> Taken
-    ensures { result ≡ ofNumber number }
+    ensures { result ≡ of_number number }
 {
     match number {
         Number::Read { value, len } => Taken::Value { value, len },
@@ -76,7 +76,7 @@ fn of_number(number: Number) -> Taken
 
 // The octets that fill a gap.
 fn octets_taken(text: &[u8]) -> Taken
-    ensures { result ≡ octetsTaken text.now }
+    ensures { result ≡ octets_taken text.now }
 {
     let n = pair_count(text);
     if MOST_OCTETS < n {
@@ -87,7 +87,7 @@ fn octets_taken(text: &[u8]) -> Taken
 
 // What fills a gap.
 fn gap_taken(kind: u8, text: &[u8]) -> Taken
-    ensures { result ≡ gapTaken kind text.now }
+    ensures { result ≡ gap_taken kind text.now }
 {
     if kind == b'x' {
         return octets_taken(text);
@@ -108,7 +108,7 @@ fn letter_taken(c: u8, text: &[u8]) -> Taken
 // What the first part of a form takes of a text.
 pub(crate) fn next_taken(form: &[u8], text: &[u8]) -> Taken
     requires { 0 < length form.now }
-    ensures { result ≡ taken (headPart form.now) text.now }
+    ensures { result ≡ taken (head_part form.now) text.now }
 {
     if form[0] != PERCENT {
         return letter_taken(form[0], text);
@@ -122,7 +122,7 @@ pub(crate) fn next_taken(form: &[u8], text: &[u8]) -> Taken
 // How many characters of the form its first part is.
 pub(crate) fn part_len(form: &[u8]) -> usize
     requires { 0 < length form.now }
-    ensures { result ≡ partSize form.now }
+    ensures { result ≡ part_size form.now }
 {
     if form[0] != PERCENT {
         return 1;

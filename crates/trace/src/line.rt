@@ -1,13 +1,13 @@
 // Lines of a text, and what a line begins with.
 ghost use Rattle.std.specs.Prelude.{◌≡◌};
-ghost use Rattle.trace.specs.Lines.{lineLength, line_at, afterLine, beginsWith, starts_with};
+ghost use Rattle.trace.specs.Lines.{line_length, line_at, after_line, begins_with, starts_with};
 
 // LF, with which a line ends.
 const LINE_END: u8 = 10;
 
 // How many octets stand before the first LF, all where there is none.
 pub fn line_len(text: &[u8]) -> usize
-    ensures { result ≡ lineLength text.now }
+    ensures { result ≡ line_length text.now }
 {
     let mut t = text;
     let mut n: usize = 0;
@@ -35,7 +35,7 @@ pub fn line_at(text: &[u8], at: usize) -> &[u8]
 
 // Where the line after the one at a place begins: behind the LF, or at the text's end.
 pub fn after_line(text: &[u8], at: usize) -> usize
-    ensures { result ≡ afterLine at text.now }
+    ensures { result ≡ after_line at text.now }
 {
     if text.len() < at {
         return at;
@@ -49,7 +49,7 @@ pub fn after_line(text: &[u8], at: usize) -> usize
 
 // Whether the line begins with these characters.
 pub fn begins(line: &[u8], start: &[u8]) -> bool
-    ensures { result ≡ beginsWith start.now line.now }
+    ensures { result ≡ begins_with start.now line.now }
 {
     let mut x = start;
     let mut y = line;

@@ -1,6 +1,6 @@
 // Numbers in decimal, and addresses, which are four of them.
 ghost use Rattle.std.specs.Prelude.{◌≡◌, ◌-◌, ◌≤◌, length};
-ghost use Rattle.trace.specs.Numbers.{digitsOf, proper, within, decimal, joined, dotted, address, Bounded};
+ghost use Rattle.trace.specs.Numbers.{digits_of, proper, within, decimal, joined, dotted, address, Bounded};
 
 use crate::digit::digit;
 use crate::line::starts;
@@ -18,7 +18,7 @@ pub(crate) const DOT: u8 = 46;
 
 // Whether the digits that a text begins with write a number: there is one, and no zero leads others.
 fn is_proper(text: &[u8]) -> bool
-    ensures { result ≡ proper (digitsOf text.now) }
+    ensures { result ≡ proper (digits_of text.now) }
 {
     if text.len() == 0 {
         return false;
@@ -38,7 +38,7 @@ fn is_proper(text: &[u8]) -> bool
 
 // The number of the digits that a text begins with, if it is at most `most`.
 fn digits_within(text: &[u8], most: u64) -> Number
-    ensures { result ≡ within most (digitsOf text.now) }
+    ensures { result ≡ within most (digits_of text.now) }
 {
     let mut t = text;
     let mut value: u64 = 0;

@@ -1,9 +1,9 @@
 // Writing: characters, numbers, octets and whole records, over a lent buffer from a place on, as far as there is room. Each
 // writer answers the place behind what it wrote; where that is the buffer's end, the text may have been cut.
 ghost use Rattle.std.specs.Prelude.{◌≡◌, [], ◌∷◌, ◌++◌, ◌<◌, ◌/◌, ◌%◌, length, take, drop, get_or};
-ghost use Rattle.trace.specs.Forms.{headPart};
-ghost use Rattle.trace.specs.Texts.{digitChar, decimalText, addressText, octetsText, fieldText};
-ghost use Rattle.trace.specs.Written.{Wrote, field_of, line_of, partText, part_width};
+ghost use Rattle.trace.specs.Forms.{head_part};
+ghost use Rattle.trace.specs.Texts.{digit_char_of, decimal_text, address_text, octets_text, field_text};
+ghost use Rattle.trace.specs.Written.{Wrote, field_of, line_of, part_text, part_width};
 
 use crate::gap::{PERCENT, part_len};
 use crate::number::DOT;
@@ -13,7 +13,7 @@ use octets::span::up_to;
 // The character of a digit.
 fn digit_char(d: u8) -> u8
     requires { d < 16 }
-    ensures { result ≡ digitChar d }
+    ensures { result ≡ digit_char_of d }
 {
     if d < 10 {
         return 48 + d;
@@ -47,7 +47,7 @@ fn put_chars(buf: &mut [u8], at: usize, text: &[u8]) -> usize
 
 // An octet, as two digits.
 fn put_octet(buf: &mut [u8], at: usize, o: u8) -> usize
-    ensures { Wrote at (digitChar (o / 16) ∷ digitChar (o % 16) ∷ []) buf.old result buf.new }
+    ensures { Wrote at (digit_char_of (o / 16) ∷ digit_char_of (o % 16) ∷ []) buf.old result buf.new }
 {
     let next = put_char(buf, at, digit_char(o / 16));
     put_char(buf, next, digit_char(o % 16))
@@ -55,7 +55,7 @@ fn put_octet(buf: &mut [u8], at: usize, o: u8) -> usize
 
 // Octets, two digits each.
 fn put_octets(buf: &mut [u8], at: usize, octets: &[u8]) -> usize
-    ensures { Wrote at (octetsText octets.now) buf.old result buf.new }
+    ensures { Wrote at (octets_text octets.now) buf.old result buf.new }
 {
     let mut place = at;
     let mut t = octets;
@@ -68,7 +68,7 @@ fn put_octets(buf: &mut [u8], at: usize, octets: &[u8]) -> usize
 
 // A number in decimal.
 fn put_decimal(buf: &mut [u8], at: usize, n: u64) -> usize
-    ensures { Wrote at (decimalText n) buf.old result buf.new }
+    ensures { Wrote at (decimal_text n) buf.old result buf.new }
 {
     let mut digits = [0u8; 20];
     let mut i: usize = 19;
@@ -84,7 +84,7 @@ fn put_decimal(buf: &mut [u8], at: usize, n: u64) -> usize
 
 // Two numbers with a dot between them.
 fn put_pair(buf: &mut [u8], at: usize, a: u64, b: u64) -> usize
-    ensures { Wrote at (decimalText a ++ (46 ∷ decimalText b)) buf.old result buf.new }
+    ensures { Wrote at (decimal_text a ++ (46 ∷ decimal_text b)) buf.old result buf.new }
 {
     let dot = put_decimal(buf, at, a);
     let second = put_char(buf, dot, DOT);
@@ -93,7 +93,7 @@ fn put_pair(buf: &mut [u8], at: usize, a: u64, b: u64) -> usize
 
 // An address.
 fn put_address(buf: &mut [u8], at: usize, v: u64) -> usize
-    ensures { Wrote at (addressText v) buf.old result buf.new }
+    ensures { Wrote at (address_text v) buf.old result buf.new }
 {
     let dot = put_pair(buf, at, v / 16777216 % 256, v / 65536 % 256);
     let third = put_char(buf, dot, DOT);
@@ -123,7 +123,7 @@ fn some(source: &[u8], place: u64, count: u64) -> &[u8]
 
 // A gap, filled.
 fn put_gap(buf: &mut [u8], at: usize, kind: u8, values: &[u64], source: &[u8]) -> usize
-    ensures { Wrote at (fieldText kind (field_of kind values.now source.now)) buf.old result buf.new }
+    ensures { Wrote at (field_text kind (field_of kind values.now source.now)) buf.old result buf.new }
 {
     let value = value_at(values, 0);
     if kind == b'x' {
@@ -149,7 +149,7 @@ fn kind_of(form: &[u8]) -> u8
 // How many values the first part of a form takes.
 fn width_of(form: &[u8]) -> usize
     requires { 0 < length form.now }
-    ensures { result ≡ part_width (headPart form.now) }
+    ensures { result ≡ part_width (head_part form.now) }
 {
     if form[0] != PERCENT {
         return 0;
@@ -163,7 +163,7 @@ fn width_of(form: &[u8]) -> usize
 // The first part of a form.
 fn put_part(buf: &mut [u8], at: usize, form: &[u8], values: &[u64], source: &[u8]) -> usize
     requires { 0 < length form.now }
-    ensures { Wrote at (partText (headPart form.now) values.now source.now) buf.old result buf.new }
+    ensures { Wrote at (part_text (head_part form.now) values.now source.now) buf.old result buf.new }
 {
     if form[0] != PERCENT {
         return put_char(buf, at, form[0]);

@@ -8,78 +8,78 @@ use lib.ListN.{length, get_or, drop, set}
 use Rattle.choice.specs.Choice.{if◌then◌else◌}
 use Rattle.octets.specs.Words.{word32}
 use Rattle.octets.specs.Addresses.{unicast}
-use Rattle.wire.specs.Readings.{unicastOnes, groups_of, firstThree}
+use Rattle.wire.specs.Readings.{unicast_ones, groups_of, first_three}
 use Rattle.wire.specs.declared.reply.Addresses.{Addresses}
 
 -- three are enough
-pub three-full : (done more : List ℕ) → 3 ≤ (firstThree done).count → firstThree done ≡ firstThree (done ++ more)
-three-full [] more h = absurd (omega arith)
-three-full (a ∷ []) more h = absurd (omega arith)
-three-full (a ∷ b ∷ []) more h = absurd (omega arith)
-three-full (a ∷ b ∷ c ∷ done) more h = refl
+pub three_full : (done more : List ℕ) → 3 ≤ (first_three done).count → first_three done ≡ first_three (done ++ more)
+three_full [] more h = absurd (omega arith)
+three_full (a ∷ []) more h = absurd (omega arith)
+three_full (a ∷ b ∷ []) more h = absurd (omega arith)
+three_full (a ∷ b ∷ c ∷ done) more h = refl
 
 -- one more
-pub three-more : (done : List ℕ) (a : ℕ) → (firstThree done).count < 3
-    → ◌≡◌ {A = Addresses} (record { list = set (firstThree done).list (firstThree done).count a; count = (firstThree done).count + 1 }) (firstThree (done ++ (a ∷ [])))
-three-more [] a h = refl
-three-more (b ∷ []) a h = refl
-three-more (b ∷ c ∷ []) a h = refl
-three-more (b ∷ c ∷ d ∷ done) a h = absurd (omega arith)
+pub three_more : (done : List ℕ) (a : ℕ) → (first_three done).count < 3
+    → ◌≡◌ {A = Addresses} (record { list = set (first_three done).list (first_three done).count a; count = (first_three done).count + 1 }) (first_three (done ++ (a ∷ [])))
+three_more [] a h = refl
+three_more (b ∷ []) a h = refl
+three_more (b ∷ c ∷ []) a h = refl
+three_more (b ∷ c ∷ d ∷ done) a h = absurd (omega arith)
 
-pub ones-kept : (a : ℕ) (xs : List ℕ) → unicast a ≡ true → unicastOnes (a ∷ xs) ≡ a ∷ unicastOnes xs
-unfolding unicastOnes if◌then◌else◌
-ones-kept a xs e = rw e
+pub ones_kept : (a : ℕ) (xs : List ℕ) → unicast a ≡ true → unicast_ones (a ∷ xs) ≡ a ∷ unicast_ones xs
+unfolding unicast_ones if◌then◌else◌
+ones_kept a xs e = rw e
 
-pub ones-left : (a : ℕ) (xs : List ℕ) → unicast a ≡ false → unicastOnes (a ∷ xs) ≡ unicastOnes xs
-unfolding unicastOnes if◌then◌else◌
-ones-left a xs e = rw e
+pub ones_left : (a : ℕ) (xs : List ℕ) → unicast a ≡ false → unicast_ones (a ∷ xs) ≡ unicast_ones xs
+unfolding unicast_ones if◌then◌else◌
+ones_left a xs e = rw e
 
-ones_split : (a : ℕ) (xs : List ℕ) → unicastOnes (a ∷ xs) ≡ unicastOnes (a ∷ []) ++ unicastOnes xs
-unfolding unicastOnes if◌then◌else◌
+ones_split : (a : ℕ) (xs : List ℕ) → unicast_ones (a ∷ xs) ≡ unicast_ones (a ∷ []) ++ unicast_ones xs
+unfolding unicast_ones if◌then◌else◌
 ones_split a xs = by (unicast a)
   where
-    by : (t : Bool) → (if t then a ∷ unicastOnes xs else unicastOnes xs) ≡ (if t then a ∷ [] else []) ++ unicastOnes xs
+    by : (t : Bool) → (if t then a ∷ unicast_ones xs else unicast_ones xs) ≡ (if t then a ∷ [] else []) ++ unicast_ones xs
     by true = refl
     by false = refl
 
 -- the addresses of `body` are those already found and those of what is left of it
 pub record Gathered (body rest : List ℕ) (found : Addresses) : Type 0 where
   pub done : List ℕ
-  pub holds : found ≡ firstThree done
-  pub whole : unicastOnes (groups_of body) ≡ done ++ unicastOnes (groups_of rest)
+  pub holds : found ≡ first_three done
+  pub whole : unicast_ones (groups_of body) ≡ done ++ unicast_ones (groups_of rest)
 
-pub gathered_none : (body : List ℕ) → Gathered body body (firstThree [])
+pub gathered_none : (body : List ℕ) → Gathered body body (first_three [])
 gathered_none body = record { done = []; holds = refl; whole = refl }
 
-groups-more : (t : List ℕ) → 4 ≤ length t → groups_of t ≡ word32 (get_or t 0 0) (get_or t 1 0) (get_or t 2 0) (get_or t 3 0) ∷ groups_of (drop 4 t)
+groups_more : (t : List ℕ) → 4 ≤ length t → groups_of t ≡ word32 (get_or t 0 0) (get_or t 1 0) (get_or t 2 0) (get_or t 3 0) ∷ groups_of (drop 4 t)
 unfolding groups_of
-groups-more [] h = absurd (omega arith)
-groups-more (a ∷ []) h = absurd (omega arith)
-groups-more (a ∷ b ∷ []) h = absurd (omega arith)
-groups-more (a ∷ b ∷ c ∷ []) h = absurd (omega arith)
-groups-more (a ∷ b ∷ c ∷ d ∷ t) h = refl
+groups_more [] h = absurd (omega arith)
+groups_more (a ∷ []) h = absurd (omega arith)
+groups_more (a ∷ b ∷ []) h = absurd (omega arith)
+groups_more (a ∷ b ∷ c ∷ []) h = absurd (omega arith)
+groups_more (a ∷ b ∷ c ∷ d ∷ t) h = refl
 
-groups-end : (t : List ℕ) → length t < 4 → groups_of t ≡ []
+groups_end : (t : List ℕ) → length t < 4 → groups_of t ≡ []
 unfolding groups_of
-groups-end [] h = refl
-groups-end (a ∷ []) h = refl
-groups-end (a ∷ b ∷ []) h = refl
-groups-end (a ∷ b ∷ c ∷ []) h = refl
-groups-end (a ∷ b ∷ c ∷ d ∷ t) h = absurd (omega arith)
+groups_end [] h = refl
+groups_end (a ∷ []) h = refl
+groups_end (a ∷ b ∷ []) h = refl
+groups_end (a ∷ b ∷ c ∷ []) h = refl
+groups_end (a ∷ b ∷ c ∷ d ∷ t) h = absurd (omega arith)
 
-pub gathered-more : (body t next : List ℕ) (found r : Addresses) (a : ℕ) → Gathered body t found → 4 ≤ length t → next ≡ drop 4 t
+pub gathered_more : (body t next : List ℕ) (found r : Addresses) (a : ℕ) → Gathered body t found → 4 ≤ length t → next ≡ drop 4 t
     → a ≡ word32 (get_or t 0 0) (get_or t 1 0) (get_or t 2 0) (get_or t 3 0)
-    → ((done : List ℕ) → found ≡ firstThree done → r ≡ firstThree (done ++ unicastOnes (a ∷ [])))
+    → ((done : List ℕ) → found ≡ first_three done → r ≡ first_three (done ++ unicast_ones (a ∷ [])))
     → Gathered body next r
-gathered-more body t next found r a g h en ea step = record {
-  done = g.done ++ unicastOnes (a ∷ []);
+gathered_more body t next found r a g h en ea step = record {
+  done = g.done ++ unicast_ones (a ∷ []);
   holds = step g.done g.holds;
-  whole = g.whole ∙ ap (λ (l : List ℕ). g.done ++ l) rest ∙ sym (append_assoc g.done (unicastOnes (a ∷ [])) (unicastOnes (groups_of next)));
+  whole = g.whole ∙ ap (λ (l : List ℕ). g.done ++ l) rest ∙ sym (append_assoc g.done (unicast_ones (a ∷ [])) (unicast_ones (groups_of next)));
 }
   where
-    rest : unicastOnes (groups_of t) ≡ unicastOnes (a ∷ []) ++ unicastOnes (groups_of next)
-    rest = ap unicastOnes (groups-more t h ∙ (λ k. sym ea k ∷ groups_of (sym en k))) ∙ ones_split a (groups_of next)
+    rest : unicast_ones (groups_of t) ≡ unicast_ones (a ∷ []) ++ unicast_ones (groups_of next)
+    rest = ap unicast_ones (groups_more t h ∙ (λ k. sym ea k ∷ groups_of (sym en k))) ∙ ones_split a (groups_of next)
 
-pub gathered-all : (body t : List ℕ) (found : Addresses) → Gathered body t found → length t < 4 → found ≡ firstThree (unicastOnes (groups_of body))
-unfolding unicastOnes
-gathered-all body t found g h = g.holds ∙ ap firstThree (sym (g.whole ∙ ap (λ (l : List ℕ). g.done ++ unicastOnes l) (groups-end t h) ∙ append-nil g.done))
+pub gathered_all : (body t : List ℕ) (found : Addresses) → Gathered body t found → length t < 4 → found ≡ first_three (unicast_ones (groups_of body))
+unfolding unicast_ones
+gathered_all body t found g h = g.holds ∙ ap first_three (sym (g.whole ∙ ap (λ (l : List ℕ). g.done ++ unicast_ones l) (groups_end t h) ∙ append-nil g.done))

@@ -13,7 +13,7 @@ use lib.Dec.{eqb, ltb}
 use borrow.Author.Tests.{ltb-true, lt-ltb, eq-eqb, ne_eqb}
 use Rattle.choice.specs.Choice.{if◌then◌else◌}
 use Rattle.octets.specs.Items.{option}
-use Rattle.wire.specs.Options.{DhcpOption, headItem, optionsFrom, firstWith, optionData, dataAt, Finds}
+use Rattle.wire.specs.Options.{DhcpOption, head_item, options_from, first_with, option_data, dataAt, Finds}
 use Rattle.wire.specs.Readings.{length_of}
 use Rattle.wire.specs.declared.reply.Length.TheVariants.{Octets}
 use Rattle.wire.specs.declared.options.Item.{Item}
@@ -22,15 +22,15 @@ use Rattle.wire.specs.declared.options.Found.{Found}
 use Rattle.wire.specs.declared.options.Found.TheVariants.{Nothing, At}
 
 -- octets of the option before are passed over
-skip : (k : ℕ) (xs : List ℕ) → optionsFrom k xs ≡ optionsFrom 0 (drop k xs)
-unfolding optionsFrom
+skip : (k : ℕ) (xs : List ℕ) → options_from k xs ≡ options_from 0 (drop k xs)
+unfolding options_from
 skip zero xs = refl
 skip (suc k) [] = refl
 skip (suc k) (x ∷ xs) = skip k xs
 
 -- the options from `at` of s on
 abbrev pub from : List ℕ → ℕ → List DhcpOption
-from s at = optionsFrom 0 (drop at s)
+from s at = options_from 0 (drop at s)
 
 -- what the walk does at an item at `at`
 abbrev pub after : List ℕ → ℕ → Item → List DhcpOption
@@ -38,35 +38,35 @@ after s at Pad = from s (at + 1)
 after s at End = []
 after s at (Whole code size) = record { code = code; body = take size (drop (at + 2) s) } ∷ from s (at + 2 + size)
 
-by-item : (s : List ℕ) (at : ℕ) (xs : List ℕ) → xs ≡ drop (at + 1) s → (it : Item)
-    → (elim it [ Pad ↦ optionsFrom 0 xs | End ↦ [] | Whole code size ↦ record { code = code; body = take size (drop 1 xs) } ∷ optionsFrom (suc size) xs ]) ≡ after s at it
-by-item s at xs e Pad = rw e
-by-item s at xs e End = refl
-by-item s at xs e (Whole code size) =
+by_item : (s : List ℕ) (at : ℕ) (xs : List ℕ) → xs ≡ drop (at + 1) s → (it : Item)
+    → (elim it [ Pad ↦ options_from 0 xs | End ↦ [] | Whole code size ↦ record { code = code; body = take size (drop 1 xs) } ∷ options_from (suc size) xs ]) ≡ after s at it
+by_item s at xs e Pad = rw e
+by_item s at xs e End = refl
+by_item s at xs e (Whole code size) =
     let one : at + 1 + 1 ≡ at + 2 = omega arith in
     let all : at + 1 + suc size ≡ at + 2 + size = omega arith in
     let first : drop 1 xs ≡ drop (at + 2) s = rw (e, drop-drop, one) in
-    let rest : optionsFrom (suc size) xs ≡ from s (at + 2 + size) = skip (suc size) xs ∙ rw (e, drop-drop, all) in
+    let rest : options_from (suc size) xs ≡ from s (at + 2 + size) = skip (suc size) xs ∙ rw (e, drop-drop, all) in
     (λ k. record { code = code; body = take size (first k) } ∷ rest k)
 
-step-list : (s : List ℕ) (at : ℕ) (l : List ℕ) → drop 1 l ≡ drop (at + 1) s → optionsFrom 0 l ≡ after s at (headItem l)
-unfolding optionsFrom headItem
-step-list s at [] t = refl
-step-list s at (x ∷ xs) t = by-item s at xs t (headItem (x ∷ xs))
+step_list : (s : List ℕ) (at : ℕ) (l : List ℕ) → drop 1 l ≡ drop (at + 1) s → options_from 0 l ≡ after s at (head_item l)
+unfolding options_from head_item
+step_list s at [] t = refl
+step_list s at (x ∷ xs) t = by_item s at xs t (head_item (x ∷ xs))
 
 -- what the walk does once an item was read
-pub moved : (s : List ℕ) (at : ℕ) (r it : Item) → r ≡ headItem (drop at s) → r ≡ it → from s at ≡ after s at it
-moved s at r it e f = step-list s at (drop at s) (drop-drop 1 at s) ∙ ap (after s at) (sym e ∙ f)
+pub moved : (s : List ℕ) (at : ℕ) (r it : Item) → r ≡ head_item (drop at s) → r ≡ it → from s at ≡ after s at it
+moved s at r it e f = step_list s at (drop at s) (drop-drop 1 at s) ∙ ap (after s at) (sym e ∙ f)
 
 -- what stands at a place within s, by its octets
-pub item-at : (s : List ℕ) (at : ℕ) → at < length s
-    → headItem (drop at s) ≡ (if eqb (get_or s at 0) 0 then Pad else if eqb (get_or s at 0) 255 then End else if ltb (get_or s (at + 1) 0) (length s - (at + 1)) then Whole (get_or s at 0) (get_or s (at + 1) 0) else End)
-unfolding headItem
-item-at s at h = rw (drop-cons s at 0 h) (simp (get_or-drop, length-drop, add-zero, add-one))
+pub item_at : (s : List ℕ) (at : ℕ) → at < length s
+    → head_item (drop at s) ≡ (if eqb (get_or s at 0) 0 then Pad else if eqb (get_or s at 0) 255 then End else if ltb (get_or s (at + 1) 0) (length s - (at + 1)) then Whole (get_or s at 0) (get_or s (at + 1) 0) else End)
+unfolding head_item
+item_at s at h = rw (drop-cons s at 0 h) (simp (get_or-drop, length-drop, add-zero, add-one))
 
-pub item-past : (s : List ℕ) (at : ℕ) → length s ≤ at → headItem (drop at s) ≡ End
-unfolding headItem
-item-past s at h = rw (drop_of_length-le s h)
+pub item_past : (s : List ℕ) (at : ℕ) → length s ≤ at → head_item (drop at s) ≡ End
+unfolding head_item
+item_past s at h = rw (drop_of_length-le s h)
 
 -- where an item lies
 abbrev pub Lies : List ℕ → ℕ → Item → Type 0
@@ -74,70 +74,70 @@ Lies s at Pad = Unit {0}
 Lies s at End = Unit {0}
 Lies s at (Whole code size) = at + 2 + size ≤ length s
 
-lies-of : (s : List ℕ) (at c n : ℕ) (p q t : Bool) → (t ≡ true → at + 2 + n ≤ length s)
+lies_of : (s : List ℕ) (at c n : ℕ) (p q t : Bool) → (t ≡ true → at + 2 + n ≤ length s)
     → Lies s at (if p then Pad else if q then End else if t then Whole c n else End)
 unfolding if◌then◌else◌
-lies-of s at c n true q t f = tt
-lies-of s at c n false true t f = tt
-lies-of s at c n false false true f = f refl
-lies-of s at c n false false false f = tt
+lies_of s at c n true q t f = tt
+lies_of s at c n false true t f = tt
+lies_of s at c n false false true f = f refl
+lies_of s at c n false false false f = tt
 
-pub lies : (s : List ℕ) (at : ℕ) (r it : Item) → r ≡ headItem (drop at s) → r ≡ it → at < length s → Lies s at it
-lies s at r it e f h = rw (sym f ∙ e ∙ item-at s at h)
-    (lies-of s at (get_or s at 0) (get_or s (at + 1) 0) (eqb (get_or s at 0) 0) (eqb (get_or s at 0) 255) (ltb (get_or s (at + 1) 0) (length s - (at + 1))) (λ t. omega (arith, ltb-true)))
+pub lies : (s : List ℕ) (at : ℕ) (r it : Item) → r ≡ head_item (drop at s) → r ≡ it → at < length s → Lies s at it
+lies s at r it e f h = rw (sym f ∙ e ∙ item_at s at h)
+    (lies_of s at (get_or s at 0) (get_or s (at + 1) 0) (eqb (get_or s at 0) 0) (eqb (get_or s at 0) 255) (ltb (get_or s (at + 1) 0) (length s - (at + 1))) (λ t. omega (arith, ltb-true)))
 
 -- at the end there is nothing
 pub from_past : (s : List ℕ) (at : ℕ) → length s ≤ at → from s at ≡ []
-unfolding optionsFrom
+unfolding options_from
 from_past s at h = rw (drop_of_length-le s h)
 
 -- the first option with a code is this one, or one of those that follow
-pub first-here : (code c : ℕ) (body : List ℕ) (os : List DhcpOption) → c ≡ code → firstWith code (record { code = c; body = body } ∷ os) ≡ some body
-unfolding firstWith if◌then◌else◌
-first-here code c body os e = simp (eq-eqb _ _ e)
+pub first_here : (code c : ℕ) (body : List ℕ) (os : List DhcpOption) → c ≡ code → first_with code (record { code = c; body = body } ∷ os) ≡ some body
+unfolding first_with if◌then◌else◌
+first_here code c body os e = simp (eq-eqb _ _ e)
 
-pub first-later : (code c : ℕ) (body : List ℕ) (os : List DhcpOption) → (c ≡ code → ⊥) → firstWith code (record { code = c; body = body } ∷ os) ≡ firstWith code os
-unfolding firstWith if◌then◌else◌
-first-later code c body os e = simp (ne_eqb _ _ e)
+pub first_later : (code c : ℕ) (body : List ℕ) (os : List DhcpOption) → (c ≡ code → ⊥) → first_with code (record { code = c; body = body } ∷ os) ≡ first_with code os
+unfolding first_with if◌then◌else◌
+first_later code c body os e = simp (ne_eqb _ _ e)
 
-pub first-none : (code : ℕ) → firstWith code [] ≡ none
-unfolding firstWith
-first-none code = refl
+pub first_none : (code : ℕ) → first_with code [] ≡ none
+unfolding first_with
+first_none code = refl
 
 -- the data of an option that was found, as `&reply[start..end]` lends it
 pub found : {reply : List ℕ} {code : ℕ} {r : Found} (start size : ℕ) → Finds reply code r → r ≡ At start size
-    → (some (take (start + size - start) (drop start reply)) ≡ optionData code reply) × (start + size ≤ length reply)
+    → (some (take (start + size - start) (drop start reply)) ≡ option_data code reply) × (start + size ≤ length reply)
 found {reply} {code} {r} start size f e =
     let g : Finds reply code (At start size) = subst (λ (q : Found). Finds reply code q) e f in
     let n : start + size - start ≡ size = omega arith in
     (rw n g.holds, g.inside)
 
-pub found_none : {reply : List ℕ} {code : ℕ} {r : Found} → Finds reply code r → r ≡ Nothing → none ≡ optionData code reply
+pub found_none : {reply : List ℕ} {code : ℕ} {r : Found} → Finds reply code r → r ≡ Nothing → none ≡ option_data code reply
 found_none {reply} {code} {r} f e = ap (dataAt reply) (sym e) ∙ f.holds
 
 -- its length
-pub found-size : {reply : List ℕ} {code : ℕ} {r : Found} (start size : ℕ) → Finds reply code r → r ≡ At start size
+pub found_size : {reply : List ℕ} {code : ℕ} {r : Found} (start size : ℕ) → Finds reply code r → r ≡ At start size
     → length (take (start + size - start) (drop start reply)) ≡ size
-found-size {reply} start size f e =
+found_size {reply} start size f e =
     let g = found start size f e in
     let n : start + size - start ≡ size = omega arith in
     simp (n, length-take, length-drop) (omega arith)
 
-pub found-length : {reply : List ℕ} {code : ℕ} {r : Found} (start size : ℕ) → Finds reply code r → r ≡ At start size
-    → length_of (optionData code reply) ≡ Octets size
-found-length start size f e = ap length_of (sym (found start size f e).0) ∙ ap Octets (found-size start size f e)
+pub found_length : {reply : List ℕ} {code : ℕ} {r : Found} (start size : ℕ) → Finds reply code r → r ≡ At start size
+    → length_of (option_data code reply) ≡ Octets size
+found_length start size f e = ap length_of (sym (found start size f e).0) ∙ ap Octets (found_size start size f e)
 
 -- ---- a field that begins with an option as a writer leaves it
-head-option : (k : ℕ) (d r : List ℕ) → (k ≡ 0 → ⊥) → (k ≡ 255 → ⊥) → headItem (option k d ++ r) ≡ Whole k (length d)
-unfolding headItem if◌then◌else◌
-head-option k d r h g =
+head_option : (k : ℕ) (d r : List ℕ) → (k ≡ 0 → ⊥) → (k ≡ 255 → ⊥) → head_item (option k d ++ r) ≡ Whole k (length d)
+unfolding head_item if◌then◌else◌
+head_option k d r h g =
     let e : length d < length (length d ∷ (d ++ r)) = omega (arith, length-append d r) in
     simp (ne_eqb k 0 h, ne_eqb k 255 g, lt-ltb (length d) (length (length d ∷ (d ++ r))) e)
 
-pub walk-option : (k : ℕ) (d r : List ℕ) → (k ≡ 0 → ⊥) → (k ≡ 255 → ⊥) → optionsFrom 0 (option k d ++ r) ≡ record { code = k; body = d } ∷ optionsFrom 0 r
-walk-option k d r h g =
+pub walk_option : (k : ℕ) (d r : List ℕ) → (k ≡ 0 → ⊥) → (k ≡ 255 → ⊥) → options_from 0 (option k d ++ r) ≡ record { code = k; body = d } ∷ options_from 0 r
+walk_option k d r h g =
     let s = option k d ++ r in
     let e : 0 + 2 + length d ≡ suc (suc (length d)) = omega arith in
     let body : take (length d) (drop (0 + 2) s) ≡ d = take-append_seam d r in
     let rest : drop (0 + 2 + length d) s ≡ r = ap (λ (n : ℕ). drop n s) e ∙ drop-append_seam d r in
-    step-list s 0 s refl ∙ ap (after s 0) (head-option k d r h g) ∙ (λ i. record { code = k; body = body i } ∷ optionsFrom 0 (rest i))
+    step_list s 0 s refl ∙ ap (after s 0) (head_option k d r h g) ∙ (λ i. record { code = k; body = body i } ∷ options_from 0 (rest i))

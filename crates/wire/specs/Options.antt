@@ -3,7 +3,7 @@
 use Rattle.std.specs.Prelude.{ℕ, zero, suc, ◌+◌, ◌≤◌, List, [], ◌∷◌, ◌≡◌, length, get_or, take, drop, eqb, ltb}
 use Rattle.std.proofs.Math.Option.{Option, none, some}
 use Rattle.choice.specs.Choice.{if◌then◌else◌}
-use Rattle.octets.specs.Codes.{padCode, endCode}
+use Rattle.octets.specs.Codes.{pad_code, end_code}
 use Rattle.wire.specs.declared.options.Item.{Item}
 use Rattle.wire.specs.declared.options.Item.TheVariants.{Pad, End, Whole}
 use Rattle.wire.specs.declared.options.Found.{Found}
@@ -15,42 +15,42 @@ pub record DhcpOption : Type 0 where
   pub body : List ℕ
 
 -- What an options field begins with: padding, the end, or an option whose length octet and data are all there.
-unfoldable pub headItem : List ℕ → Item
-headItem [] = End
-headItem (code ∷ xs) =
-    if eqb code padCode then Pad
-    else if eqb code endCode then End
+unfoldable pub head_item : List ℕ → Item
+head_item [] = End
+head_item (code ∷ xs) =
+    if eqb code pad_code then Pad
+    else if eqb code end_code then End
     else if ltb (get_or xs 0 0) (length xs) then Whole code (get_or xs 0 0)
     else End
 
 -- The options of a field, whose first `rest` octets belong to an option begun before.
-unfoldable pub optionsFrom : ℕ → List ℕ → List DhcpOption
-optionsFrom rest [] = []
-optionsFrom (suc rest) (x ∷ xs) = optionsFrom rest xs
-optionsFrom zero (code ∷ xs) =
-    elim (headItem (code ∷ xs)) [
-      | Pad ↦ optionsFrom 0 xs
+unfoldable pub options_from : ℕ → List ℕ → List DhcpOption
+options_from rest [] = []
+options_from (suc rest) (x ∷ xs) = options_from rest xs
+options_from zero (code ∷ xs) =
+    elim (head_item (code ∷ xs)) [
+      | Pad ↦ options_from 0 xs
       | End ↦ []
-      | Whole code size ↦ record { code = code; body = take size (drop 1 xs) } ∷ optionsFrom (suc size) xs
+      | Whole code size ↦ record { code = code; body = take size (drop 1 xs) } ∷ options_from (suc size) xs
     ]
 
 -- What precedes the options: a header of 236 octets, and the magic cookie.
-abbrev pub headerLength : ℕ
-headerLength = 236 + 4
+abbrev pub header_length : ℕ
+header_length = 236 + 4
 
 -- The options of a reply, in order.
-abbrev pub optionsOf : List ℕ → List DhcpOption
-optionsOf reply = optionsFrom 0 (drop headerLength reply)
+abbrev pub options_of : List ℕ → List DhcpOption
+options_of reply = options_from 0 (drop header_length reply)
 
 -- The data of the first option with a code.
-unfoldable pub firstWith : ℕ → List DhcpOption → Option (List ℕ)
-firstWith code [] = none
-firstWith code (o ∷ os) = if eqb o.code code then some o.body else firstWith code os
+unfoldable pub first_with : ℕ → List DhcpOption → Option (List ℕ)
+first_with code [] = none
+first_with code (o ∷ os) = if eqb o.code code then some o.body else first_with code os
 
 -- The data of an option of a reply, by its code: all reading goes through this name. Of two options with one code the
 -- first counts: the Rust decides.
-abbrev pub optionData : ℕ → List ℕ → Option (List ℕ)
-optionData code reply = firstWith code (optionsOf reply)
+abbrev pub option_data : ℕ → List ℕ → Option (List ℕ)
+option_data code reply = first_with code (options_of reply)
 
 -- For contracts within this crate, which no public one cites: the data that lies at a place of a reply.
 abbrev pub dataAt : List ℕ → Found → Option (List ℕ)
@@ -63,5 +63,5 @@ Inside reply (At start size) = start + size ≤ length reply
 
 -- A place where the data of an option lies, within the reply.
 pub record Finds (reply : List ℕ) (code : ℕ) (r : Found) : Type 0 where
-  pub holds : dataAt reply r ≡ optionData code reply
+  pub holds : dataAt reply r ≡ option_data code reply
   pub inside : Inside reply r

@@ -1,6 +1,6 @@
 // The options field of a reply: the walk over it, and the data of an option.
 ghost use Rattle.std.specs.Prelude.{◌≡◌, drop};
-ghost use Rattle.wire.specs.Options.{headItem, Finds};
+ghost use Rattle.wire.specs.Options.{head_item, Finds};
 
 use octets::codes::{OPT_END, OPT_PAD};
 
@@ -25,7 +25,7 @@ pub(crate) enum Found {
 // What stands at `at`: a whole option, one octet of padding, or the end, which is the end mark, an option cut short, or
 // nothing more.
 pub(crate) fn read_item(s: &[u8], at: usize) -> Item
-    ensures { result ≡ headItem (drop at s.now) }
+    ensures { result ≡ head_item (drop at s.now) }
 {
     if s.len() <= at {
         return Item::End;

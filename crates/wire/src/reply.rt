@@ -1,7 +1,7 @@
 // What is read of a reply.
 ghost use Rattle.std.specs.Prelude.{◌≡◌, List, [], ◌∷◌, ◌++◌, ℕ};
-ghost use Rattle.wire.specs.Options.{optionData};
-ghost use Rattle.wire.specs.Readings.{headerCheck, addressedTo, transactionId, yourAddress, length_of, octetOf, type_of, address_of, secondsOf, addressesOf, unicastOnes, groups_of, firstThree, messageType, router, ifUnicast};
+ghost use Rattle.wire.specs.Options.{option_data};
+ghost use Rattle.wire.specs.Readings.{header_check, addressed_to, transaction_id, your_address, length_of, octet_of, type_of, address_of, seconds_of, addresses_of, unicast_ones, groups_of, first_three, message_type, router, if_unicast};
 ghost use Rattle.std.proofs.Math.Option.{some};
 
 use crate::options::{Found, OPTIONS, find};
@@ -34,7 +34,7 @@ pub struct Addresses {
 
 // The checks that need the header alone.
 pub fn check_header(reply: &[u8]) -> Checked
-    ensures { result ≡ headerCheck reply.now }
+    ensures { result ≡ header_check reply.now }
 {
     if reply.len() < OPTIONS {
         return Checked::PassedOver(20);
@@ -52,7 +52,7 @@ pub fn check_header(reply: &[u8]) -> Checked
 
 // Whether the client hardware address of a reply is this one.
 pub fn is_addressed_to(reply: &[u8], hardware: [u8; 6]) -> bool
-    ensures { result ≡ addressedTo hardware reply.now }
+    ensures { result ≡ addressed_to hardware reply.now }
 {
     if reply.len() < 34 {
         return false;
@@ -62,21 +62,21 @@ pub fn is_addressed_to(reply: &[u8], hardware: [u8; 6]) -> bool
 
 // The transaction id, none where the reply ends before it does.
 pub fn transaction_id(reply: &[u8]) -> MaybeNumber
-    ensures { result ≡ transactionId reply.now }
+    ensures { result ≡ transaction_id reply.now }
 {
     octets::word::read_u32(reply, 4)
 }
 
 // Your-address, none where the reply ends before it does.
 pub fn your_ip(reply: &[u8]) -> MaybeNumber
-    ensures { result ≡ yourAddress reply.now }
+    ensures { result ≡ your_address reply.now }
 {
     octets::word::read_u32(reply, 16)
 }
 
 // The length of an option's data.
 pub fn option_len(reply: &[u8], code: u8) -> Length
-    ensures { result ≡ length_of (optionData code reply.now) }
+    ensures { result ≡ length_of (option_data code reply.now) }
 {
     match find(reply, code) {
         Found::At { start: _, len } => Length::Octets(len),
@@ -86,7 +86,7 @@ pub fn option_len(reply: &[u8], code: u8) -> Length
 
 // The octet at an index of an option's data, none where the data ends before it.
 pub fn option_octet(reply: &[u8], code: u8, index: usize) -> MaybeNumber
-    ensures { result ≡ octetOf index (optionData code reply.now) }
+    ensures { result ≡ octet_of index (option_data code reply.now) }
 {
     match find(reply, code) {
         Found::At { start, len } => {
@@ -99,7 +99,7 @@ pub fn option_octet(reply: &[u8], code: u8, index: usize) -> MaybeNumber
 
 // The octet at an index of some data.
 fn octet_in(body: &[u8], index: usize) -> MaybeNumber
-    ensures { result ≡ octetOf index (some body.now) }
+    ensures { result ≡ octet_of index (some body.now) }
 {
     if index < body.len() {
         return some_octet(body[index]);
@@ -116,7 +116,7 @@ fn some_octet(octet: u8) -> MaybeNumber
 
 // The message type, option 53: exactly one octet.
 pub fn message_type(reply: &[u8]) -> MaybeNumber
-    ensures { result ≡ messageType reply.now }
+    ensures { result ≡ message_type reply.now }
 {
     match find(reply, OPT_DHCP_MESSAGE_TYPE) {
         Found::At { start, len } => {
@@ -139,7 +139,7 @@ fn type_in(body: &[u8]) -> MaybeNumber
 
 // An option's address: the first four octets of its data.
 pub fn option_address(reply: &[u8], code: u8) -> MaybeNumber
-    ensures { result ≡ address_of (optionData code reply.now) }
+    ensures { result ≡ address_of (option_data code reply.now) }
 {
     match find(reply, code) {
         Found::At { start, len } => {
@@ -152,7 +152,7 @@ pub fn option_address(reply: &[u8], code: u8) -> MaybeNumber
 
 // An option's seconds: exactly four octets.
 pub fn option_seconds(reply: &[u8], code: u8) -> MaybeNumber
-    ensures { result ≡ secondsOf (optionData code reply.now) }
+    ensures { result ≡ seconds_of (option_data code reply.now) }
 {
     match find(reply, code) {
         Found::At { start, len } => {
@@ -175,7 +175,7 @@ pub fn router(reply: &[u8]) -> MaybeNumber
 
 // An address, if there is one and it is unicast.
 pub fn unicast_only(address: MaybeNumber) -> MaybeNumber
-    ensures { result ≡ ifUnicast address }
+    ensures { result ≡ if_unicast address }
 {
     match address {
         MaybeNumber::Some(a) => {
@@ -190,7 +190,7 @@ pub fn unicast_only(address: MaybeNumber) -> MaybeNumber
 
 // An option's list of addresses: groups of four octets, unicast only, the first three.
 pub fn option_addresses(reply: &[u8], code: u8) -> Addresses
-    ensures { result ≡ addressesOf (optionData code reply.now) }
+    ensures { result ≡ addresses_of (option_data code reply.now) }
 {
     match find(reply, code) {
         Found::At { start, len } => {
@@ -206,7 +206,7 @@ pub fn option_addresses(reply: &[u8], code: u8) -> Addresses
 
 // The addresses of an option's data: groups of four octets, unicast only, the first three.
 fn addresses_in(body: &[u8]) -> Addresses
-    ensures { result ≡ addressesOf (some body.now) }
+    ensures { result ≡ addresses_of (some body.now) }
 {
     let mut found = Addresses {
         list: [0; 3],
@@ -222,7 +222,7 @@ fn addresses_in(body: &[u8]) -> Addresses
 
 // One address more, if it is unicast and there is room.
 fn with_address(found: Addresses, address: u32) -> Addresses
-    ensures { (done : List ℕ) → found ≡ firstThree done → result ≡ firstThree (done ++ unicastOnes (address ∷ [])) }
+    ensures { (done : List ℕ) → found ≡ first_three done → result ≡ first_three (done ++ unicast_ones (address ∷ [])) }
 {
     let count = found.count;
     if 3 <= count {

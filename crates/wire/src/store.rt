@@ -1,6 +1,6 @@
 // The store of options that a lease carries, by value.
 ghost use Rattle.std.specs.Prelude.{◌≡◌, ◌+◌, ◌≤◌, length};
-ghost use Rattle.wire.specs.Stored.{emptyStore, pushed, store_of, wholeStore, placeFrom, got, sameOptions};
+ghost use Rattle.wire.specs.Stored.{empty_store, pushed, store_of, whole_store, place_from, got, same_options};
 
 use crate::options::{Item, OPTIONS, read_item};
 use octets::number::at_most;
@@ -25,7 +25,7 @@ pub enum Got {
 impl Store {
     // 256 zeros, none in use.
     pub fn new() -> Store
-        ensures { result ≡ emptyStore }
+        ensures { result ≡ empty_store }
     {
         Store {
             bytes: [0; 256],
@@ -85,7 +85,7 @@ impl Store {
 
     // Whether the store is whole items.
     pub fn is_whole(self) -> bool
-        ensures { result ≡ wholeStore self }
+        ensures { result ≡ whole_store self }
     {
         let n = self.len;
         let bytes = self.bytes;
@@ -112,7 +112,7 @@ impl Store {
 
     // Whether two stores hold the same options.
     pub fn equals(self, other: Store) -> bool
-        ensures { result ≡ sameOptions self other }
+        ensures { result ≡ same_options self other }
     {
         let a = self.bytes;
         let b = other.bytes;
@@ -125,7 +125,7 @@ impl Store {
 // The first item of a kind in s, whose first octet stands at `base`: a recursion over the rest.
 fn find_in(s: &[u8], base: usize, kind: u8) -> Got
     requires { base + length s.now ≤ 256 }
-    ensures { result ≡ placeFrom kind base 0 s.now }
+    ensures { result ≡ place_from kind base 0 s.now }
 {
     if s.len() < 2 {
         return Got::Absent;

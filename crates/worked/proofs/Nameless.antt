@@ -8,14 +8,14 @@ use native.Mathlib.Omega.{arith}
 use lib.ListN.{length, get_or}
 use Rattle.choice.specs.Choice.{if◌then◌else◌}
 use Rattle.octets.specs.Words.{word16}
-use Rattle.octets.specs.Codes.{maskCode, routerCode, dnsCode}
+use Rattle.octets.specs.Codes.{mask_code, router_code, dns_code}
 use Rattle.machine.specs.declared.decide.Sending.TheVariants.{Discover, Request}
 use Rattle.machine.specs.declared.state.DiscoverState.{DiscoverState}
 use Rattle.machine.specs.declared.state.RequestState.{RequestState}
-use Rattle.message.specs.Messages.{optionIf, addressOption, sizeOption, nameOption}
+use Rattle.message.specs.Messages.{option_if, address_option, size_option, name_option}
 use Rattle.message.specs.Datagrams.{datagram}
-use Rattle.message.proofs.Messages.{message-length}
-use Rattle.settings.specs.Settings.{name_of, list_of, extraOf}
+use Rattle.message.proofs.Messages.{message_length_lem}
+use Rattle.settings.specs.Settings.{name_of, list_of, extra_of}
 use Rattle.settings.specs.declared.settings.Settings.{Settings}
 use Rattle.lease.specs.declared.lease.DhcpLease.{DhcpLease}
 use Rattle.sending.specs.Sendings.{fields_of, body_of, datagramFor}
@@ -24,22 +24,22 @@ module _ (s : Settings) (hardware : length s.hardware ≡ 6) (unnamed : s.name_l
   no_name : name_of s ≡ []
   no_name = rw unnamed
 
-  default-list : list_of s ≡ maskCode ∷ routerCode ∷ dnsCode ∷ []
+  default_list : list_of s ≡ mask_code ∷ router_code ∷ dns_code ∷ []
   unfolding list_of if◌then◌else◌
-  default-list = rw unlisted
+  default_list = rw unlisted
 
-  no_extra : extraOf s ≡ []
+  no_extra : extra_of s ≡ []
   no_extra = rw plain
 
   module _ (lease : DhcpLease) (id : ℕ) where
-    pub discover-length : (d : DiscoverState) → length (body_of s lease id (Discover d)) ≡ 262
-    unfolding nameOption addressOption sizeOption optionIf if◌then◌else◌
-    discover-length d = rw (no_name, default-list, no_extra) (message-length (fields_of s lease id (Discover d)) [] (maskCode ∷ routerCode ∷ dnsCode ∷ []) [] hardware ∙ omega arith)
+    pub discover_length : (d : DiscoverState) → length (body_of s lease id (Discover d)) ≡ 262
+    unfolding name_option address_option size_option option_if if◌then◌else◌
+    discover_length d = rw (no_name, default_list, no_extra) (message_length_lem (fields_of s lease id (Discover d)) [] (mask_code ∷ router_code ∷ dns_code ∷ []) [] hardware ∙ omega arith)
 
-    pub request-length : (r : RequestState) → length (body_of s lease id (Request r)) ≡ 274
-    unfolding nameOption addressOption sizeOption optionIf if◌then◌else◌
-    request-length r = rw (no_name, default-list, no_extra) (message-length (fields_of s lease id (Request r)) [] (maskCode ∷ routerCode ∷ dnsCode ∷ []) [] hardware ∙ omega arith)
+    pub request_length : (r : RequestState) → length (body_of s lease id (Request r)) ≡ 274
+    unfolding name_option address_option size_option option_if if◌then◌else◌
+    request_length r = rw (no_name, default_list, no_extra) (message_length_lem (fields_of s lease id (Request r)) [] (mask_code ∷ router_code ∷ dns_code ∷ []) [] hardware ∙ omega arith)
 
-    pub discover-udp-length : (d : DiscoverState) → word16 (get_or (datagramFor s lease id (Discover d)) 4 0) (get_or (datagramFor s lease id (Discover d)) 5 0) ≡ 270
+    pub discover_udp_length : (d : DiscoverState) → word16 (get_or (datagramFor s lease id (Discover d)) 4 0) (get_or (datagramFor s lease id (Discover d)) 5 0) ≡ 270
     unfolding datagramFor datagram
-    discover-udp-length d = rw (discover-length d)
+    discover_udp_length d = rw (discover_length d)

@@ -9,41 +9,41 @@ use lib.ListN.{length, length-append}
 use lib.Seq.{drop_at}
 use Rattle.choice.specs.Choice.{if◌then◌else◌}
 use borrow.Author.Tests.{le-leb}
-use Rattle.octets.specs.Words.{word32At, bytes16, bytes32}
+use Rattle.octets.specs.Words.{word32_at, bytes16, bytes32}
 use Rattle.octets.specs.Items.{option}
-use Rattle.octets.specs.Codes.{endCode, hostNameCode, requestedCode, messageTypeCode, identifierCode, requestListCode, messageSizeCode, clientIdCode}
+use Rattle.octets.specs.Codes.{end_code, host_name_code, requested_code, message_type_code, identifier_code, request_list_code, message_size_code, client_id_code}
 use Rattle.octets.proofs.Words.{joined32}
 use Rattle.octets.specs.declared.number.MaybeNumber.{MaybeNumber}
 use Rattle.octets.specs.declared.number.MaybeNumber.TheVariants.{None, Some}
-use Rattle.wire.specs.Options.{DhcpOption, optionsFrom, optionsOf, optionData, firstWith}
-use Rattle.wire.specs.Readings.{messageType, type_of, transactionId}
-use Rattle.wire.proofs.Walks.{walk-option}
-use Rattle.message.specs.Messages.{message, header, optionIf, addressOption, sizeOption, nameOption, given, options}
+use Rattle.wire.specs.Options.{DhcpOption, options_from, options_of, option_data, first_with}
+use Rattle.wire.specs.Readings.{message_type, type_of, transaction_id}
+use Rattle.wire.proofs.Walks.{walk_option}
+use Rattle.message.specs.Messages.{message, header, option_if, address_option, size_option, name_option, given, options}
 use Rattle.message.specs.declared.message.Message.{Message}
 use Rattle.worked.specs.Sent.{item, nameItem, addressItem, sizeItem, listItem, sent}
 
 -- An option of the writer's, read.
-one : (code : ℕ) (body r : List ℕ) → 0 < code → code < 255 → optionsFrom 0 (option code body ++ r) ≡ item code body ∷ optionsFrom 0 r
-one code body r h k = walk-option code body r (λ e. omega arith) (λ e. omega arith)
+one : (code : ℕ) (body r : List ℕ) → 0 < code → code < 255 → options_from 0 (option code body ++ r) ≡ item code body ∷ options_from 0 r
+one code body r h k = walk_option code body r (λ e. omega arith) (λ e. omega arith)
 
-named : (name r : List ℕ) → optionsFrom 0 (nameOption name ++ r) ≡ nameItem name ++ optionsFrom 0 r
-unfolding nameOption
+named : (name r : List ℕ) → options_from 0 (name_option name ++ r) ≡ nameItem name ++ options_from 0 r
+unfolding name_option
 named [] r = refl
-named (x ∷ xs) r = one hostNameCode (x ∷ xs) r (omega arith) (omega arith)
+named (x ∷ xs) r = one host_name_code (x ∷ xs) r (omega arith) (omega arith)
 
-addressed : (code : ℕ) (address : MaybeNumber) (r : List ℕ) → 0 < code → code < 255 → optionsFrom 0 (addressOption code address ++ r) ≡ addressItem code address ++ optionsFrom 0 r
-unfolding addressOption
+addressed : (code : ℕ) (address : MaybeNumber) (r : List ℕ) → 0 < code → code < 255 → options_from 0 (address_option code address ++ r) ≡ addressItem code address ++ options_from 0 r
+unfolding address_option
 addressed code None r h k = refl
 addressed code (Some a) r h k = one code (bytes32 a) r h k
 
-sized : (size : MaybeNumber) (r : List ℕ) → optionsFrom 0 (sizeOption messageSizeCode size ++ r) ≡ sizeItem size ++ optionsFrom 0 r
-unfolding sizeOption
+sized : (size : MaybeNumber) (r : List ℕ) → options_from 0 (size_option message_size_code size ++ r) ≡ sizeItem size ++ options_from 0 r
+unfolding size_option
 sized None r = refl
-sized (Some n) r = one messageSizeCode (bytes16 n) r (omega arith) (omega arith)
+sized (Some n) r = one message_size_code (bytes16 n) r (omega arith) (omega arith)
 
-listed : (asks : Bool) (list r : List ℕ) → optionsFrom 0 (optionIf asks requestListCode list ++ r) ≡ listItem asks list ++ optionsFrom 0 r
-unfolding optionIf if◌then◌else◌
-listed true list r = one requestListCode list r (omega arith) (omega arith)
+listed : (asks : Bool) (list r : List ℕ) → options_from 0 (option_if asks request_list_code list ++ r) ≡ listItem asks list ++ options_from 0 r
+unfolding option_if if◌then◌else◌
+listed true list r = one request_list_code list r (omega arith) (omega arith)
 listed false list r = refl
 
 flatten : (a b c d e f g x y : List ℕ) → ((a ++ (b ++ c)) ++ ((d ++ (e ++ f)) ++ (g ++ x))) ++ y ≡ a ++ (b ++ (c ++ (d ++ (e ++ (f ++ (g ++ (x ++ y)))))))
@@ -52,53 +52,53 @@ flatten a b c d e f g x y = simp append_assoc
 -- The writer's options, one behind the other, then what follows.
 abbrev row : Message → List ℕ → List ℕ → List ℕ → List ℕ
 row m name list rest =
-    option messageTypeCode (m.kind ∷ []) ++ (option clientIdCode (1 ∷ m.hardware) ++ (nameOption name ++ (addressOption requestedCode m.requested ++ (addressOption identifierCode m.server ++ (sizeOption messageSizeCode m.size ++ (optionIf m.asks requestListCode list ++ rest))))))
+    option message_type_code (m.kind ∷ []) ++ (option client_id_code (1 ∷ m.hardware) ++ (name_option name ++ (address_option requested_code m.requested ++ (address_option identifier_code m.server ++ (size_option message_size_code m.size ++ (option_if m.asks request_list_code list ++ rest))))))
 
 -- All of them.
 module _ (m : Message) (name list extra : List ℕ) where
   abbrev rest : List ℕ
-  rest = extra ++ (endCode ∷ [])
+  rest = extra ++ (end_code ∷ [])
 
-  told : optionsFrom 0 (addressOption requestedCode m.requested ++ (addressOption identifierCode m.server ++ (sizeOption messageSizeCode m.size ++ (optionIf m.asks requestListCode list ++ rest))))
-      ≡ addressItem requestedCode m.requested ++ (addressItem identifierCode m.server ++ (sizeItem m.size ++ (listItem m.asks list ++ optionsFrom 0 rest)))
+  told : options_from 0 (address_option requested_code m.requested ++ (address_option identifier_code m.server ++ (size_option message_size_code m.size ++ (option_if m.asks request_list_code list ++ rest))))
+      ≡ addressItem requested_code m.requested ++ (addressItem identifier_code m.server ++ (sizeItem m.size ++ (listItem m.asks list ++ options_from 0 rest)))
   told =
-      addressed requestedCode m.requested _ (omega arith) (omega arith)
-      ∙ ap (λ (l : List DhcpOption). addressItem requestedCode m.requested ++ l)
-      (addressed identifierCode m.server _ (omega arith) (omega arith)
-      ∙ ap (λ (l : List DhcpOption). addressItem identifierCode m.server ++ l)
+      addressed requested_code m.requested _ (omega arith) (omega arith)
+      ∙ ap (λ (l : List DhcpOption). addressItem requested_code m.requested ++ l)
+      (addressed identifier_code m.server _ (omega arith) (omega arith)
+      ∙ ap (λ (l : List DhcpOption). addressItem identifier_code m.server ++ l)
       (sized m.size _ ∙ ap (λ (l : List DhcpOption). sizeItem m.size ++ l) (listed m.asks list rest)))
 
-  in_row : optionsFrom 0 (row m name list rest)
-      ≡ sent m name list ++ optionsFrom 0 rest
+  in_row : options_from 0 (row m name list rest)
+      ≡ sent m name list ++ options_from 0 rest
   in_row =
-      one messageTypeCode (m.kind ∷ []) _ (omega arith) (omega arith)
-      ∙ ap (λ (l : List DhcpOption). item messageTypeCode (m.kind ∷ []) ∷ l)
-      (one clientIdCode (1 ∷ m.hardware) _ (omega arith) (omega arith)
-      ∙ ap (λ (l : List DhcpOption). item clientIdCode (1 ∷ m.hardware) ∷ l) (named name _ ∙ ap (λ (l : List DhcpOption). nameItem name ++ l) told))
+      one message_type_code (m.kind ∷ []) _ (omega arith) (omega arith)
+      ∙ ap (λ (l : List DhcpOption). item message_type_code (m.kind ∷ []) ∷ l)
+      (one client_id_code (1 ∷ m.hardware) _ (omega arith) (omega arith)
+      ∙ ap (λ (l : List DhcpOption). item client_id_code (1 ∷ m.hardware) ∷ l) (named name _ ∙ ap (λ (l : List DhcpOption). nameItem name ++ l) told))
       ∙ simp append_assoc
 
   -- The options of a message that was written are those it was given, then the extra ones.
-  pub round_trip : length m.hardware ≡ 6 → optionsOf (message m name list extra) ≡ sent m name list ++ optionsFrom 0 rest
+  pub round_trip : length m.hardware ≡ 6 → options_of (message m name list extra) ≡ sent m name list ++ options_from 0 rest
   unfolding message
   round_trip six =
       let fixed : length (header m.id m.client m.hardware) ≡ 240 = simp length-append (omega arith) in
-      let field = drop_at (header m.id m.client m.hardware) (options m name list extra ++ (endCode ∷ [])) 240 fixed in
-      let flat : options m name list extra ++ (endCode ∷ []) ≡ row m name list (extra ++ (endCode ∷ [])) =
-      flatten (option messageTypeCode (m.kind ∷ [])) (option clientIdCode (1 ∷ m.hardware)) (nameOption name) (addressOption requestedCode m.requested) (addressOption identifierCode m.server) (sizeOption messageSizeCode m.size) (optionIf m.asks requestListCode list) extra (endCode ∷ []) in
-      ap (optionsFrom 0) (field ∙ flat) ∙ in_row
+      let field = drop_at (header m.id m.client m.hardware) (options m name list extra ++ (end_code ∷ [])) 240 fixed in
+      let flat : options m name list extra ++ (end_code ∷ []) ≡ row m name list (extra ++ (end_code ∷ [])) =
+      flatten (option message_type_code (m.kind ∷ [])) (option client_id_code (1 ∷ m.hardware)) (name_option name) (address_option requested_code m.requested) (address_option identifier_code m.server) (size_option message_size_code m.size) (option_if m.asks request_list_code list) extra (end_code ∷ []) in
+      ap (options_from 0) (field ∙ flat) ∙ in_row
 
   -- So the first of each code is the one it was given: the message type, and the client identifier.
-  pub type-read : length m.hardware ≡ 6 → messageType (message m name list extra) ≡ Some m.kind
-  unfolding firstWith if◌then◌else◌
-  type-read six = ap (λ (os : List DhcpOption). type_of (firstWith messageTypeCode os)) (round_trip six)
+  pub type_read : length m.hardware ≡ 6 → message_type (message m name list extra) ≡ Some m.kind
+  unfolding first_with if◌then◌else◌
+  type_read six = ap (λ (os : List DhcpOption). type_of (first_with message_type_code os)) (round_trip six)
 
-  pub client-read : length m.hardware ≡ 6 → optionData clientIdCode (message m name list extra) ≡ some (1 ∷ m.hardware)
-  unfolding firstWith if◌then◌else◌
-  client-read six = ap (firstWith clientIdCode) (round_trip six)
+  pub client_read : length m.hardware ≡ 6 → option_data client_id_code (message m name list extra) ≡ some (1 ∷ m.hardware)
+  unfolding first_with if◌then◌else◌
+  client_read six = ap (first_with client_id_code) (round_trip six)
 
   -- The header's id is read as it was given.
-  pub id-read : m.id < 4294967296 → transactionId (message m name list extra) ≡ Some m.id
-  unfolding message word32At if◌then◌else◌
-  id-read h =
+  pub id_read : m.id < 4294967296 → transaction_id (message m name list extra) ≡ Some m.id
+  unfolding message word32_at if◌then◌else◌
+  id_read h =
       let room : 4 + 4 ≤ length (message m name list extra) = omega arith in
       simp (le-leb _ _ room) (ap Some (joined32 m.id h))

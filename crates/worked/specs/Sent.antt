@@ -4,17 +4,17 @@ use Rattle.clock.specs.Durations.{duration}
 use Rattle.clock.specs.Moments.{moment}
 use Rattle.choice.specs.Choice.{if◌then◌else◌}
 use Rattle.octets.specs.Words.{word16, word32}
-use Rattle.octets.specs.Items.{wholeFrom}
+use Rattle.octets.specs.Items.{whole_from}
 use Rattle.octets.specs.declared.number.MaybeNumber.TheVariants.{None}
 use Rattle.machine.specs.declared.decide.Sending.{Sending}
 use Rattle.machine.specs.declared.decide.Sending.TheVariants.{Discover, Request}
-use Rattle.message.specs.Messages.{message, optionIf, addressOption, sizeOption, nameOption}
+use Rattle.message.specs.Messages.{message, option_if, address_option, size_option, name_option}
 use Rattle.message.specs.Datagrams.{datagram}
-use Rattle.message.specs.Written.{listFits}
-use Rattle.settings.specs.Settings.{list_of, overCap, sizeRefusal, listsRefusal, refusalOf}
+use Rattle.message.specs.Written.{list_fits}
+use Rattle.settings.specs.Settings.{list_of, over_cap, size_refusal, lists_refusal, refusal_of}
 use Rattle.settings.specs.declared.settings.Settings.{Settings}
 use Rattle.settings.specs.declared.settings.Medium.TheVariants.{Ethernet}
-use Rattle.lease.specs.Leases.{noLease}
+use Rattle.lease.specs.Leases.{no_lease}
 use Rattle.sending.specs.Sendings.{body_of, datagramFor}
 use Rattle.worked.specs.Starred.{Case, case}
 
@@ -49,24 +49,24 @@ requesting = Request (record {
 })
 
 -- The octets of such a message, and the length field of its datagram, octets 4 and 5.
-abbrev messageLength : Sending → ℕ
-messageLength sending = length (body_of post noLease 1 sending)
+abbrev message_length : Sending → ℕ
+message_length sending = length (body_of post no_lease 1 sending)
 
-abbrev udpLength : Sending → ℕ
-udpLength sending = word16 (get_or (datagramFor post noLease 1 sending) 4 0) (get_or (datagramFor post noLease 1 sending) 5 0)
+abbrev udp_length : Sending → ℕ
+udp_length sending = word16 (get_or (datagramFor post no_lease 1 sending) 4 0) (get_or (datagramFor post no_lease 1 sending) 5 0)
 
 -- Each quotes document 01.
 unfoldable sent : List Case
 sent =
     -- "Discover without name: 262 bytes, UDP length 270." "Requesting: 274."
-    case (messageLength discovering ∷ udpLength discovering ∷ []) (262 ∷ 270 ∷ [])
-    ∷ case (messageLength requesting ∷ []) (274 ∷ [])
+    case (message_length discovering ∷ udp_length discovering ∷ []) (262 ∷ 270 ∷ [])
+    ∷ case (message_length requesting ∷ []) (274 ∷ [])
     ∷ []
 
-pub all-sent : map (λ c. c.given) sent ≡ map (λ c. c.stated) sent
-unfolding sent if◌then◌else◌ list_of datagramFor datagram message optionIf addressOption sizeOption nameOption
-all-sent = refl
+pub all_sent : map (λ c. c.given) sent ≡ map (λ c. c.stated) sent
+unfolding sent if◌then◌else◌ list_of datagramFor datagram message option_if address_option size_option name_option
+all_sent = refl
 
-pub post-taken : refusalOf post ≡ None
-unfolding refusalOf listsRefusal sizeRefusal overCap list_of listFits wholeFrom if◌then◌else◌ message optionIf addressOption sizeOption nameOption
-post-taken = refl
+pub post_taken : refusal_of post ≡ None
+unfolding refusal_of lists_refusal size_refusal over_cap list_of list_fits whole_from if◌then◌else◌ message option_if address_option size_option name_option
+post_taken = refl

@@ -1,4 +1,4 @@
-use Rattle.client.proofs.Made.{not-held}
+use Rattle.client.proofs.Made.{not_held_lem}
 use borrow.Author.Rules.{rules}
 use Rattle.client.proofs.lookup.unheld.Statement.{statement}
 use Rattle.client.proofs.lookup.unheld.Tie as tie
@@ -7,7 +7,7 @@ zero-requires : tie.Need-zero-requires
 zero-requires c κs = search rules
 
 returns : tie.Need-returns
-returns c = not-held _ c.zero.ensures
+returns c = not_held_lem _ c.zero.ensures
 
 pub unheld-spec : {M : Type 1} → statement M
 unheld-spec = tie.close (tie.spec zero-requires returns)

@@ -1,6 +1,6 @@
 use mathlib.Core.Path.{sym, ◌∙◌}
-use Rattle.choice.proofs.Choices.{if-true, if-false}
-use Rattle.client.specs.Taken.{heldBy}
+use Rattle.choice.proofs.Choices.{if_true, if_false}
+use Rattle.client.specs.Taken.{held_by}
 use borrow.Author.Rules.{rules}
 use Rattle.client.proofs.taken.held.Statement.{statement}
 use Rattle.client.proofs.taken.held.Tie as tie
@@ -12,15 +12,15 @@ installed-requires : tie.Need-installed-requires
 installed-requires c κs = search rules
 
 returns : tie.Need-returns
-unfolding heldBy
-returns c = if-true _ (sym c.before.before.has-lease.ensures ∙ c.before.if1.true) c.installed.ensures
+unfolding held_by
+returns c = if_true _ (sym c.before.before.has-lease.ensures ∙ c.before.if1.true) c.installed.ensures
 
 nothing-requires : tie.Need-nothing-requires
 nothing-requires c κs = search rules
 
 returns-2 : tie.Need-returns-2
-unfolding heldBy
-returns-2 c = if-false _ (sym c.before.before.has-lease.ensures ∙ c.before.if1.false) c.nothing.ensures
+unfolding held_by
+returns-2 c = if_false _ (sym c.before.before.has-lease.ensures ∙ c.before.if1.false) c.nothing.ensures
 
 pub held_spec : {M : Type 1} → statement M
 held_spec =

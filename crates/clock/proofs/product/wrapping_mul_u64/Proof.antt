@@ -1,4 +1,4 @@
-use Rattle.clock.proofs.Products.{wrapped-by-halves}
+use Rattle.clock.proofs.Products.{wrapped_by_halves}
 use Rattle.std.proofs.Common.{rules}
 use Rattle.clock.proofs.product.wrapping_mul_u64.Statement.{statement}
 use Rattle.clock.proofs.product.wrapping_mul_u64.Tie as tie
@@ -34,7 +34,7 @@ wrapping-add-u64-requires-2 : tie.Need-wrapping-add-u64-requires-2
 wrapping-add-u64-requires-2 c κs = search rules
 
 returns : tie.Need-returns
-returns c = cc (wrapped-by-halves c.before.before.before.before.before.args.a c.before.before.before.before.before.args.b)
+returns c = cc (wrapped_by_halves c.before.before.before.before.before.args.a c.before.before.before.before.before.args.b)
 
 pub wrapping-mul-u64-spec : {M : Type 1} → statement M
 wrapping-mul-u64-spec =

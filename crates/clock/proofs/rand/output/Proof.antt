@@ -1,5 +1,5 @@
 use Rattle.std.proofs.Common.{refl, rules}
-use Rattle.clock.specs.Generator.{outputOf}
+use Rattle.clock.specs.Generator.{output_of}
 use Rattle.clock.proofs.rand.output.Statement.{statement}
 use Rattle.clock.proofs.rand.output.Tie as tie
 
@@ -13,7 +13,7 @@ cast-result : tie.Need-overflow-cast-result
 cast-result c = search rules
 
 returns : tie.Need-returns
-unfolding outputOf
+unfolding output_of
 returns c = refl
 
 pub output-spec : {M : Type 1} → statement M

@@ -1,5 +1,5 @@
-use Rattle.judge.specs.Awaited.{offerAlone}
-use Rattle.choice.proofs.Choices.{if-true, if-false, tests}
+use Rattle.judge.specs.Awaited.{offer_alone}
+use Rattle.choice.proofs.Choices.{if_true, if_false, tests}
 use mathlib.Core.Path.{refl}
 use borrow.Author.Rules.{rules}
 use Rattle.judge.proofs.awaited.offer_alone.Statement.{statement}
@@ -9,12 +9,12 @@ cast-if1 : tie.Need-overflow-cast-if1
 cast-if1 c = search rules
 
 returns : tie.Need-returns
-unfolding offerAlone
-returns c = if-true _ (search tests) refl
+unfolding offer_alone
+returns c = if_true _ (search tests) refl
 
 returns-2 : tie.Need-returns-2
-unfolding offerAlone
-returns-2 c = if-false _ (search tests) refl
+unfolding offer_alone
+returns-2 c = if_false _ (search tests) refl
 
 pub offer-alone-spec : {M : Type 1} → statement M
 offer-alone-spec = tie.close (tie.spec cast-if1 returns returns-2)

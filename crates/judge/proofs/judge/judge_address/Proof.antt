@@ -1,7 +1,7 @@
 use mathlib.Core.Path.{refl, sym, ap, ◌∙◌}
-use Rattle.judge.proofs.Judging.{needing-none, needing-some}
-use Rattle.wire.specs.Readings.{ifUnicast}
-use Rattle.judge.specs.Judged.{judgedAddress}
+use Rattle.judge.proofs.Judging.{needing_none, needing_some}
+use Rattle.wire.specs.Readings.{if_unicast}
+use Rattle.judge.specs.Judged.{judged_address}
 use borrow.Author.Rules.{rules}
 use Rattle.judge.proofs.judge.judge_address.Statement.{statement}
 use Rattle.judge.proofs.judge.judge_address.Tie as tie
@@ -22,12 +22,12 @@ cast-t8 : tie.Need-overflow-cast-t8
 cast-t8 c = search rules
 
 returns : tie.Need-returns
-unfolding judgedAddress
-returns c = needing-none _ _ (sym (c.before.before.unicast-only.ensures ∙ ap ifUnicast c.before.before.before.your-ip.ensures) ∙ c.enum_told.given.1)
+unfolding judged_address
+returns c = needing_none _ _ (sym (c.before.before.unicast-only.ensures ∙ ap if_unicast c.before.before.before.your-ip.ensures) ∙ c.enum_told.given.1)
 
 returns-2 : tie.Need-returns-2
-unfolding judgedAddress
-returns-2 c = needing-some _ _ (sym (c.before.before.before.unicast-only.ensures ∙ ap ifUnicast c.before.before.before.before.your-ip.ensures) ∙ c.before.address.given.1) refl
+unfolding judged_address
+returns-2 c = needing_some _ _ (sym (c.before.before.before.unicast-only.ensures ∙ ap if_unicast c.before.before.before.before.your-ip.ensures) ∙ c.before.address.given.1) refl
 
 pub judge-address-spec : {M : Type 1} → statement M
 judge-address-spec =

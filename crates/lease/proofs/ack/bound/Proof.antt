@@ -1,4 +1,4 @@
-use Rattle.lease.proofs.Times.{bound-times}
+use Rattle.lease.proofs.Times.{bound_times}
 use borrow.Author.Rules.{rules}
 use Rattle.lease.proofs.ack.bound.Statement.{statement}
 use Rattle.lease.proofs.ack.bound.Tie as tie
@@ -22,7 +22,7 @@ renewing-requires : tie.Need-renewing-requires
 renewing-requires c κs = search rules
 
 returns : tie.Need-returns
-returns c = bound-times _ _ _ c.before.before.before.before.before.longest-lease.ensures c.before.before.before.before.option-seconds.ensures c.before.before.before.lease-duration.ensures c.before.before.row_of.ensures c.before.times.ensures c.renewing.ensures
+returns c = bound_times _ _ _ c.before.before.before.before.before.longest-lease.ensures c.before.before.before.before.option-seconds.ensures c.before.before.before.lease-duration.ensures c.before.before.row_of.ensures c.before.times.ensures c.renewing.ensures
 
 pub bound-spec : {M : Type 1} → statement M
 bound-spec =

@@ -1,5 +1,5 @@
 use mathlib.Core.Path.{◌∙◌}
-use Rattle.clock.specs.Clocks.{clockAt, gathering, timerAfter}
+use Rattle.clock.specs.Clocks.{clock_at, gathering, timer_after}
 use borrow.Author.Rules.{rules}
 use Rattle.machine.proofs.decide.discover.Statement.{statement}
 use Rattle.machine.proofs.decide.discover.Tie as tie
@@ -14,7 +14,7 @@ send-requires : tie.Need-send-requires
 send-requires c κs = search rules
 
 returns : tie.Need-returns
-unfolding clockAt gathering timerAfter
+unfolding clock_at gathering timer_after
 returns c = c.send.ensures ∙ rw (c.before.before.after.ensures, c.before.before.before.new.ensures)
 
 pub discover-spec : {M : Type 1} → statement M

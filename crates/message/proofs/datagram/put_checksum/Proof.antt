@@ -1,7 +1,7 @@
 use mathlib.Core.Path.{refl, sym, ap, ◌∙◌}
 use lib.Seq.{length-take-le}
 use borrow.Author.Rules.{rules}
-use Rattle.choice.proofs.Choices.{if-true, if-false}
+use Rattle.choice.proofs.Choices.{if_true, if_false}
 use Rattle.octets.specs.Words.{bytes16}
 use Rattle.message.specs.Pieces.{summed}
 use Rattle.message.proofs.datagram.put_checksum.Statement.{statement}
@@ -9,7 +9,7 @@ use Rattle.message.proofs.datagram.put_checksum.Tie as tie
 
 returns : tie.Need-returns
 unfolding summed
-returns c = if-true _ c.if1.true refl
+returns c = if_true _ c.if1.true refl
 
 slice-reshare-prefix-checksum : tie.Need-slice-reshare-prefix-checksum
 slice-reshare-prefix-checksum c = search rules
@@ -37,7 +37,7 @@ same_length c = search rules
 
 returns-2 : tie.Need-returns-2
 unfolding summed
-returns-2 c = if-false _ c.before.before.before.before.before.before.before.before.if1.false (rw (c.before.before.before.before.before.split2.ensures ∙ ap bytes16 c.before.before.before.before.before.before.checksum.ensures) at c.before.before.put-bytes.ensures.bytes)
+returns-2 c = if_false _ c.before.before.before.before.before.before.before.before.if1.false (rw (c.before.before.before.before.before.split2.ensures ∙ ap bytes16 c.before.before.before.before.before.before.checksum.ensures) at c.before.before.put-bytes.ensures.bytes)
 
 pub put-checksum-spec : {M : Type 1} → statement M
 put-checksum-spec =

@@ -4,7 +4,7 @@ use lib.ListN.{length}
 use borrow.Author.Rules.{rules}
 use Rattle.message.specs.Messages.{message}
 use Rattle.message.proofs.Datagrams.{headed, finish}
-use Rattle.message.proofs.Messages.{message-most}
+use Rattle.message.proofs.Messages.{message_most}
 use Rattle.message.proofs.datagram.put_datagram.Statement.{statement}
 use Rattle.message.proofs.datagram.put_datagram.Tie as tie
 
@@ -15,7 +15,7 @@ add-put-udp : tie.Need-overflow-add-put-udp
 add-put-udp c = search rules
 
 put-udp-requires : tie.Need-put-udp-requires
-put-udp-requires c κs = (omega arith, omega (arith, message-most c.before.before.before.before.before.args.m c.before.before.before.before.before.args.name.now c.before.before.before.before.before.args.list.now c.before.before.before.before.before.args.extra.now (size c.before.before.before.before.before) c.before.before.before.before.before.requires.0))
+put-udp-requires c κs = (omega arith, omega (arith, message_most c.before.before.before.before.before.args.m c.before.before.before.before.before.args.name.now c.before.before.before.before.before.args.list.now c.before.before.before.before.before.args.extra.now (size c.before.before.before.before.before) c.before.before.before.before.before.requires.0))
 
 put-message-requires : tie.Need-put-message-requires
 put-message-requires c κs = search rules

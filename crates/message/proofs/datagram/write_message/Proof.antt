@@ -7,7 +7,7 @@ use Rattle.message.specs.Messages.{message}
 use Rattle.message.specs.declared.message.Answer.TheVariants.{Length}
 use Rattle.message.proofs.Answers.{short, fits, over-room, refused, leaves-datagram, leaves_all}
 use Rattle.message.proofs.Datagrams.{datagram-length}
-use Rattle.message.proofs.Messages.{message-most}
+use Rattle.message.proofs.Messages.{message_most}
 use Rattle.message.proofs.datagram.write_message.Statement.{statement}
 use Rattle.message.proofs.datagram.write_message.Tie as tie
 
@@ -24,7 +24,7 @@ add-if1 : tie.Need-overflow-add-if1
 add-if1 c =
     let a = c.before.before.before.before.before.before.before.before.args in
     let s = short a.m a.name.now a.list.now a.extra.now (sym c.before.before.before.message-len.ensures ∙ c.before.n.given.1) in
-    omega (arith, message-most a.m a.name.now a.list.now a.extra.now (size c.before.before.before.before.before.before.before.before) s.0, s.1)
+    omega (arith, message_most a.m a.name.now a.list.now a.extra.now (size c.before.before.before.before.before.before.before.before) s.0, s.1)
 
 returns : tie.Need-returns
 returns c =

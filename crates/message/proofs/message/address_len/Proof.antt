@@ -1,7 +1,7 @@
 use mathlib.Core.Path.{sym, ap}
 use lib.ListN.{length}
 use borrow.Author.Rules.{rules}
-use Rattle.message.proofs.Messages.{address-some, address-none}
+use Rattle.message.proofs.Messages.{address_some, address_none}
 use Rattle.message.proofs.message.address_len.Statement.{statement}
 use Rattle.message.proofs.message.address_len.Tie as tie
 
@@ -12,10 +12,10 @@ enum-told-2 : tie.Need-enum-told-2
 enum-told-2 c = search rules
 
 returns : tie.Need-returns
-returns c = sym (ap length (address-some c.before.before.args.kind c.enum_told.given.1))
+returns c = sym (ap length (address_some c.before.before.args.kind c.enum_told.given.1))
 
 returns-2 : tie.Need-returns-2
-returns-2 c = sym (ap length (address-none c.before.before.args.kind c.enum-told2.given.1))
+returns-2 c = sym (ap length (address_none c.before.before.args.kind c.enum-told2.given.1))
 
 pub address-len-spec : {M : Type 1} → statement M
 address-len-spec = tie.close (tie.spec enum_told enum-told-2 returns returns-2)

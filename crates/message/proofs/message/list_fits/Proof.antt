@@ -1,16 +1,16 @@
 use mathlib.Core.Path.{refl}
-use Rattle.choice.proofs.Choices.{if-true, if-false}
-use Rattle.message.specs.Written.{listFits}
+use Rattle.choice.proofs.Choices.{if_true, if_false}
+use Rattle.message.specs.Written.{list_fits}
 use Rattle.message.proofs.message.list_fits.Statement.{statement}
 use Rattle.message.proofs.message.list_fits.Tie as tie
 
 returns : tie.Need-returns
-unfolding listFits
-returns c = if-true _ c.if1.true refl
+unfolding list_fits
+returns c = if_true _ c.if1.true refl
 
 returns-2 : tie.Need-returns-2
-unfolding listFits
-returns-2 c = if-false _ c.if1.false refl
+unfolding list_fits
+returns-2 c = if_false _ c.if1.false refl
 
 pub list-fits-spec : {M : Type 1} → statement M
 list-fits-spec = tie.close (tie.spec returns returns-2)

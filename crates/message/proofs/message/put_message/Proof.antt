@@ -5,7 +5,7 @@ use native.Mathlib.Omega.{arith}
 use lib.ListN.{length}
 use borrow.Author.Rules.{rules}
 use Rattle.message.specs.Pieces.{Wrote}
-use Rattle.message.proofs.Messages.{message-length, list-most, groups}
+use Rattle.message.proofs.Messages.{message_length_lem, list_most, groups}
 use Rattle.message.proofs.Writers.{row}
 use Rattle.message.proofs.message.put_message.Statement.{statement}
 use Rattle.message.proofs.message.put_message.Tie as tie
@@ -14,16 +14,16 @@ size : (c : tie.Start) → length c.args.m.hardware ≡ 6
 size c = search rules
 
 put-header-requires : tie.Need-put-header-requires
-put-header-requires c κs = omega (arith, message-length c.before.before.before.before.before.before.args.m c.before.before.before.before.before.before.args.name.now c.before.before.before.before.before.before.args.list.now c.before.before.before.before.before.before.args.extra.now (size c.before.before.before.before.before.before))
+put-header-requires c κs = omega (arith, message_length_lem c.before.before.before.before.before.before.args.m c.before.before.before.before.before.before.args.name.now c.before.before.before.before.before.before.args.list.now c.before.before.before.before.before.before.args.extra.now (size c.before.before.before.before.before.before))
 
 put-who-requires : tie.Need-put-who-requires
-put-who-requires c κs = (omega (arith, c.before.before.before.before.before.before.before.before.before.before.requires.0.named), omega (arith, message-length c.before.before.before.before.before.before.before.before.before.before.args.m c.before.before.before.before.before.before.before.before.before.before.args.name.now c.before.before.before.before.before.before.before.before.before.before.args.list.now c.before.before.before.before.before.before.before.before.before.before.args.extra.now (size c.before.before.before.before.before.before.before.before.before.before)))
+put-who-requires c κs = (omega (arith, c.before.before.before.before.before.before.before.before.before.before.requires.0.named), omega (arith, message_length_lem c.before.before.before.before.before.before.before.before.before.before.args.m c.before.before.before.before.before.before.before.before.before.before.args.name.now c.before.before.before.before.before.before.before.before.before.before.args.list.now c.before.before.before.before.before.before.before.before.before.before.args.extra.now (size c.before.before.before.before.before.before.before.before.before.before)))
 
 put-given-requires : tie.Need-put-given-requires
-put-given-requires c κs = omega (arith, message-length c.before.before.before.before.before.before.before.before.before.before.before.before.before.before.args.m c.before.before.before.before.before.before.before.before.before.before.before.before.before.before.args.name.now c.before.before.before.before.before.before.before.before.before.before.before.before.before.before.args.list.now c.before.before.before.before.before.before.before.before.before.before.before.before.before.before.args.extra.now (size c.before.before.before.before.before.before.before.before.before.before.before.before.before.before))
+put-given-requires c κs = omega (arith, message_length_lem c.before.before.before.before.before.before.before.before.before.before.before.before.before.before.args.m c.before.before.before.before.before.before.before.before.before.before.before.before.before.before.args.name.now c.before.before.before.before.before.before.before.before.before.before.before.before.before.before.args.list.now c.before.before.before.before.before.before.before.before.before.before.before.before.before.before.args.extra.now (size c.before.before.before.before.before.before.before.before.before.before.before.before.before.before))
 
 put-last-requires : tie.Need-put-last-requires
-put-last-requires c κs = (λ e. omega (arith, list-most c.before.before.before.before.before.before.before.before.before.before.before.before.before.before.before.before.before.before.args.m.asks (length c.before.before.before.before.before.before.before.before.before.before.before.before.before.before.before.before.before.before.args.list.now) c.before.before.before.before.before.before.before.before.before.before.before.before.before.before.before.before.before.before.requires.0.listed e), omega (arith, message-length c.before.before.before.before.before.before.before.before.before.before.before.before.before.before.before.before.before.before.args.m c.before.before.before.before.before.before.before.before.before.before.before.before.before.before.before.before.before.before.args.name.now c.before.before.before.before.before.before.before.before.before.before.before.before.before.before.before.before.before.before.args.list.now c.before.before.before.before.before.before.before.before.before.before.before.before.before.before.before.before.before.before.args.extra.now (size c.before.before.before.before.before.before.before.before.before.before.before.before.before.before.before.before.before.before)))
+put-last-requires c κs = (λ e. omega (arith, list_most c.before.before.before.before.before.before.before.before.before.before.before.before.before.before.before.before.before.before.args.m.asks (length c.before.before.before.before.before.before.before.before.before.before.before.before.before.before.before.before.before.before.args.list.now) c.before.before.before.before.before.before.before.before.before.before.before.before.before.before.before.before.before.before.requires.0.listed e), omega (arith, message_length_lem c.before.before.before.before.before.before.before.before.before.before.before.before.before.before.before.before.before.before.args.m c.before.before.before.before.before.before.before.before.before.before.before.before.before.before.before.before.before.before.args.name.now c.before.before.before.before.before.before.before.before.before.before.before.before.before.before.before.before.before.before.args.list.now c.before.before.before.before.before.before.before.before.before.before.before.before.before.before.before.before.before.before.args.extra.now (size c.before.before.before.before.before.before.before.before.before.before.before.before.before.before.before.before.before.before)))
 
 same_length : tie.Need-same-length
 same_length c = search rules

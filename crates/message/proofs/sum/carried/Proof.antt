@@ -3,14 +3,14 @@ use Prim.Native.Nat.{ℕ}
 use native.Mathlib.Omega.{arith}
 use lib.ListN.{length}
 use borrow.Author.Rules.{rules}
-use Rattle.octets.proofs.Runs.{part-tail}
-use Rattle.message.specs.Datagrams.{onesAdd, onesSum}
-use Rattle.message.proofs.Sums.{sum-two, sum_one, sum-none}
+use Rattle.octets.proofs.Runs.{part_tail}
+use Rattle.message.specs.Datagrams.{ones_add, ones_sum}
+use Rattle.message.proofs.Sums.{sum_two, sum_one, sum_none}
 use Rattle.message.proofs.sum.carried.Statement.{statement}
 use Rattle.message.proofs.sum.carried.Tie as tie
 
 abbrev invariant-loop : tie.invariant-loop
-invariant-loop start s sum₀ t₀ sum t = onesSum start s ≡ onesSum sum t
+invariant-loop start s sum₀ t₀ sum t = ones_sum start s ≡ ones_sum sum t
 
 abbrev decreases-loop : tie.decreases-loop
 decreases-loop start s sum₀ t₀ sum t = length t
@@ -46,8 +46,8 @@ loop-again : tie.Need-loop-preserved invariant-loop decreases-loop
 loop-again c =
     let sum = c.before.before.before.before.before.before.loop.sum in
     let t = c.before.before.before.before.before.before.loop.t.now in
-    let e = c.before.add.ensures ∙ ap (λ (w : ℕ). onesAdd sum w) c.before.before.word.ensures in
-    c.before.before.before.before.before.before.loop.invariant ∙ sum-two sum t (omega arith) ∙ (λ k. onesSum (sym e k) (sym (part-tail 2 t) k))
+    let e = c.before.add.ensures ∙ ap (λ (w : ℕ). ones_add sum w) c.before.before.word.ensures in
+    c.before.before.before.before.before.before.loop.invariant ∙ sum_two sum t (omega arith) ∙ (λ k. ones_sum (sym e k) (sym (part_tail 2 t) k))
 
 shared-slice-read-word-3 : tie.Need-shared-slice-read-word-3 invariant-loop decreases-loop
 shared-slice-read-word-3 c = search rules
@@ -62,10 +62,10 @@ returns : tie.Need-returns invariant-loop decreases-loop
 returns c =
     let sum = c.before.before.before.before.before.loop.sum in
     let t = c.before.before.before.before.before.loop.t.now in
-    c.add2.ensures ∙ ap (λ (w : ℕ). onesAdd sum w) c.before.word2.ensures ∙ sym (c.before.before.before.before.before.loop.invariant ∙ sum_one sum t c.before.before.before.if1.true)
+    c.add2.ensures ∙ ap (λ (w : ℕ). ones_add sum w) c.before.word2.ensures ∙ sym (c.before.before.before.before.before.loop.invariant ∙ sum_one sum t c.before.before.before.if1.true)
 
 returns-2 : tie.Need-returns-2 invariant-loop decreases-loop
-returns-2 c = sym (c.before.before.loop.invariant ∙ sum-none c.before.before.loop.sum c.before.before.loop.t.now (omega arith))
+returns-2 c = sym (c.before.before.loop.invariant ∙ sum_none c.before.before.loop.sum c.before.before.loop.t.now (omega arith))
 
 pub carried-spec : {M : Type 1} → statement M
 carried-spec =

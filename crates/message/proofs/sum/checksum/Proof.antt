@@ -3,7 +3,7 @@ use mathlib.Core.List.{List}
 use Prim.Native.Nat.{ℕ}
 use lib.ListN.{length}
 use borrow.Author.Rules.{rules}
-use Rattle.message.specs.Datagrams.{onesSum, complement}
+use Rattle.message.specs.Datagrams.{ones_sum, complement}
 use Rattle.message.proofs.Sums.{sum_head}
 use Rattle.message.proofs.sum.checksum.Statement.{statement}
 use Rattle.message.proofs.sum.checksum.Tie as tie
@@ -27,8 +27,8 @@ returns : tie.Need-returns
 returns c =
     let a = c.before.before.before.before.before.before.args in
     let d = a.datagram.now in
-    let e = c.before.before.ones-sum.ensures ∙ ap (λ (l : List ℕ). onesSum 0 l) c.before.before.before.before.pseudo-header.ensures in
-    c.sent.ensures ∙ ap complement (c.before.ones-sum2.ensures ∙ ap (λ (s : ℕ). onesSum s d) e ∙ sym (sum_head a.source a.destination (length d) d))
+    let e = c.before.before.ones-sum.ensures ∙ ap (λ (l : List ℕ). ones_sum 0 l) c.before.before.before.before.pseudo-header.ensures in
+    c.sent.ensures ∙ ap complement (c.before.ones-sum2.ensures ∙ ap (λ (s : ℕ). ones_sum s d) e ∙ sym (sum_head a.source a.destination (length d) d))
 
 pub checksum-spec : {M : Type 1} → statement M
 checksum-spec =

@@ -1,7 +1,7 @@
-use Rattle.message.proofs.Sums.{low-four, in_start}
-use Rattle.message.specs.Datagrams.{onesSum}
-use Rattle.message.specs.Pieces.{carriedIn}
-use Rattle.octets.proofs.Runs.{part-tail}
+use Rattle.message.proofs.Sums.{low_four, in_start}
+use Rattle.message.specs.Datagrams.{ones_sum}
+use Rattle.message.specs.Pieces.{carried_in}
+use Rattle.octets.proofs.Runs.{part_tail}
 use lib.ListN.{length}
 use mathlib.Core.Path.{◌≡◌, sym, ap, ◌∙◌}
 use Prim.Native.Nat.{ℕ, ◌+◌, ◌*◌, ◌≤◌}
@@ -11,7 +11,7 @@ use Rattle.message.proofs.sum.deferred.Statement.{statement}
 use Rattle.message.proofs.sum.deferred.Tie as tie
 
 abbrev invariant-loop : tie.invariant-loop
-invariant-loop start s sum₀ t₀ sum t = (sum + 65535 * length t ≤ 4294901760) × (onesSum start s ≡ onesSum (carriedIn (start + 256 * sum)) t)
+invariant-loop start s sum₀ t₀ sum t = (sum + 65535 * length t ≤ 4294901760) × (ones_sum start s ≡ ones_sum (carried_in (start + 256 * sum)) t)
 
 abbrev decreases-loop : tie.decreases-loop
 decreases-loop start s sum₀ t₀ sum t = length t
@@ -20,7 +20,7 @@ loop-holds : tie.Need-loop-init invariant-loop decreases-loop
 loop-holds c = (
   omega arith,
   let e : c.before.args.start ≡ c.before.args.start + 256 * 0 = omega arith in
-      ap (λ (n : ℕ). onesSum n c.before.args.s.now) (sym (in_start c.before.args.start (omega arith)) ∙ ap carriedIn e),
+      ap (λ (n : ℕ). ones_sum n c.before.args.s.now) (sym (in_start c.before.args.start (omega arith)) ∙ ap carried_in e),
 )
 
 shared-slice-read-join2 : tie.Need-shared-slice-read-join2 invariant-loop decreases-loop
@@ -67,9 +67,9 @@ loop-again c =
     let k = c.before.before.shared-slice-known5 in
     let one = c.before.before.before.before.join2 in
     let two = c.before.join22 in
-    let f = low-four start sum t (omega arith) (omega (arith, k.given 0)) (omega (arith, k.given 1)) (omega (arith, k.given 2)) (omega (arith, k.given 3)) in (
+    let f = low_four start sum t (omega arith) (omega (arith, k.given 0)) (omega (arith, k.given 1)) (omega (arith, k.given 2)) (omega (arith, k.given 3)) in (
       omega (arith, one.ensures, two.ensures, k.given 0, k.given 1, k.given 2, k.given 3),
-      c.before.before.before.before.before.before.before.before.loop.invariant.1 ∙ f ∙ (λ i. onesSum (carriedIn (start + 256 * (sum + sym one.ensures i + sym two.ensures i))) (sym (part-tail 4 t) i)),
+      c.before.before.before.before.before.before.before.before.loop.invariant.1 ∙ f ∙ (λ i. ones_sum (carried_in (start + 256 * (sum + sym one.ensures i + sym two.ensures i))) (sym (part_tail 4 t) i)),
     )
 
 with-word-requires : tie.Need-with-word-requires invariant-loop decreases-loop

@@ -1,4 +1,4 @@
-use Rattle.message.proofs.Sums.{in-folded}
+use Rattle.message.proofs.Sums.{in_folded}
 use native.Mathlib.Omega.{arith}
 use borrow.Author.Rules.{rules}
 use Rattle.message.proofs.sum.folded.Statement.{statement}
@@ -14,7 +14,7 @@ cast-result : tie.Need-overflow-cast-result
 cast-result c = search rules
 
 returns : tie.Need-returns
-returns c = in-folded c.args.sum (omega arith)
+returns c = in_folded c.args.sum (omega arith)
 
 pub folded-spec : {M : Type 1} → statement M
 folded-spec = tie.close (tie.spec add_once add-result cast-result returns)

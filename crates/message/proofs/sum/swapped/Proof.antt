@@ -1,4 +1,4 @@
-use Rattle.message.proofs.Sums.{in-swapped}
+use Rattle.message.proofs.Sums.{in_swapped}
 use mathlib.Core.Path.{◌∙◌}
 use borrow.Author.Rules.{rules}
 use Rattle.message.proofs.sum.swapped.Statement.{statement}
@@ -23,7 +23,7 @@ folded-requires-2 : tie.Need-folded-requires-2
 folded-requires-2 c κs = search rules
 
 returns : tie.Need-returns
-returns c = c.folded2.ensures ∙ in-swapped c.before.before.args.start c.before.before.args.sum c.before.folded.result c.before.folded.ensures
+returns c = c.folded2.ensures ∙ in_swapped c.before.before.args.start c.before.before.args.sum c.before.folded.result c.before.folded.ensures
 
 pub swapped-spec : {M : Type 1} → statement M
 swapped-spec =

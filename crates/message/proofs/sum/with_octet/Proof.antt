@@ -1,5 +1,5 @@
-use Rattle.message.proofs.Sums.{low-one, sum-none}
-use Rattle.message.specs.Pieces.{carriedIn}
+use Rattle.message.proofs.Sums.{low_one, sum_none}
+use Rattle.message.specs.Pieces.{carried_in}
 use mathlib.Core.Path.{sym, ap, ◌∙◌}
 use Prim.Native.Nat.{ℕ, ◌+◌, ◌*◌}
 use native.Mathlib.Omega.{arith}
@@ -22,8 +22,8 @@ swapped-requires c κs = search rules
 returns : tie.Need-returns
 returns c =
     let a = c.before.before.before.before.before.args in
-    let e = ap (λ (w : ℕ). carriedIn (a.start + 256 * (a.sum + w))) c.before.join2.ensures in
-    c.swapped.ensures ∙ e ∙ sym (low-one a.start a.sum a.t.now c.before.before.before.if1.true (omega (arith, c.before.before.shared-slice-known2.given 0)))
+    let e = ap (λ (w : ℕ). carried_in (a.start + 256 * (a.sum + w))) c.before.join2.ensures in
+    c.swapped.ensures ∙ e ∙ sym (low_one a.start a.sum a.t.now c.before.before.before.if1.true (omega (arith, c.before.before.shared-slice-known2.given 0)))
 
 swapped-requires-2 : tie.Need-swapped-requires-2
 swapped-requires-2 c κs = search rules
@@ -31,7 +31,7 @@ swapped-requires-2 c κs = search rules
 returns-2 : tie.Need-returns-2
 returns-2 c =
     let a = c.before.before.before.args in
-    c.swapped2.ensures ∙ sym (sum-none (carriedIn (a.start + 256 * a.sum)) a.t.now (omega arith))
+    c.swapped2.ensures ∙ sym (sum_none (carried_in (a.start + 256 * a.sum)) a.t.now (omega arith))
 
 pub with-octet-spec : {M : Type 1} → statement M
 with-octet-spec =

@@ -1,7 +1,7 @@
-use Rattle.message.proofs.Sums.{low-two}
-use Rattle.message.specs.Datagrams.{onesSum}
-use Rattle.message.specs.Pieces.{carriedIn}
-use Rattle.octets.proofs.Runs.{part-tail}
+use Rattle.message.proofs.Sums.{low_two}
+use Rattle.message.specs.Datagrams.{ones_sum}
+use Rattle.message.specs.Pieces.{carried_in}
+use Rattle.octets.proofs.Runs.{part_tail}
 use lib.ListN.{length-take, length-drop}
 use mathlib.Core.Path.{sym, ap, ◌∙◌}
 use Prim.Native.Nat.{ℕ, ◌+◌, ◌*◌}
@@ -41,9 +41,9 @@ returns : tie.Need-returns
 returns c =
     let a = c.before.before.before.before.before.before.before.args in
     let k = c.before.before.before.shared-slice-known3 in
-    let e = ap (λ (w : ℕ). carriedIn (a.start + 256 * (a.sum + w))) c.before.before.join2.ensures in
-    c.with-octet.ensures ∙ (λ i. onesSum (e i) (part-tail 2 a.t.now i)) ∙
-    sym (low-two a.start a.sum a.t.now (omega arith) (omega (arith, k.given 0)) (omega (arith, k.given 1)))
+    let e = ap (λ (w : ℕ). carried_in (a.start + 256 * (a.sum + w))) c.before.before.join2.ensures in
+    c.with-octet.ensures ∙ (λ i. ones_sum (e i) (part_tail 2 a.t.now i)) ∙
+    sym (low_two a.start a.sum a.t.now (omega arith) (omega (arith, k.given 0)) (omega (arith, k.given 1)))
 
 with-octet-requires-2 : tie.Need-with-octet-requires-2
 with-octet-requires-2 c κs = search rules

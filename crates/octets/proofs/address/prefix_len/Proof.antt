@@ -2,13 +2,13 @@ use borrow.Author.Rules.{rules}
 use native.Mathlib.Omega.{arith}
 use mathlib.Core.Path.{◌≡◌, refl, sym, ap, ◌∙◌}
 use Prim.Native.Nat.{ℕ, ◌-◌, ◌*◌, ◌^◌, ◌≤◌}
-use Rattle.octets.specs.Addresses.{lengthUpTo, prefixLen}
-use Rattle.octets.proofs.Masks.{small, double, hit, miss, last-hit, last-miss}
+use Rattle.octets.specs.Addresses.{length_up_to, prefix_len}
+use Rattle.octets.proofs.Masks.{small, double, hit, miss, last_hit, last_miss}
 use Rattle.octets.proofs.address.prefix_len.Statement.{statement}
 use Rattle.octets.proofs.address.prefix_len.Tie as tie
 
 abbrev invariant-loop : tie.invariant-loop
-invariant-loop mask m n₀ p₀ n p = (n ≤ 32) × ((p ≡ 2 ^ (32 - n)) × (prefixLen mask ≡ lengthUpTo n mask))
+invariant-loop mask m n₀ p₀ n p = (n ≤ 32) × ((p ≡ 2 ^ (32 - n)) × (prefix_len mask ≡ length_up_to n mask))
 
 abbrev decreases-loop : tie.decreases-loop
 decreases-loop mask m n₀ p₀ n p = n
@@ -41,10 +41,10 @@ loop-again c = (
 )
 
 returns-2 : tie.Need-returns-2 invariant-loop decreases-loop
-returns-2 c = let z : c.before.before.loop.n ≡ 0 = omega arith in sym (c.before.before.loop.invariant.1.1 ∙ rw z (last-hit c.before.before.before.args.mask c.if2.true))
+returns-2 c = let z : c.before.before.loop.n ≡ 0 = omega arith in sym (c.before.before.loop.invariant.1.1 ∙ rw z (last_hit c.before.before.before.args.mask c.if2.true))
 
 returns-3 : tie.Need-returns-3 invariant-loop decreases-loop
-returns-3 c = let z : c.before.before.loop.n ≡ 0 = omega arith in sym (c.before.before.loop.invariant.1.1 ∙ rw z (last-miss c.before.before.before.args.mask c.if2.false))
+returns-3 c = let z : c.before.before.loop.n ≡ 0 = omega arith in sym (c.before.before.loop.invariant.1.1 ∙ rw z (last_miss c.before.before.before.args.mask c.if2.false))
 
 pub prefix-len-spec : {M : Type 1} → statement M
 prefix-len-spec =

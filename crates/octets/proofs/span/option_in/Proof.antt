@@ -1,4 +1,4 @@
-use Rattle.octets.proofs.Runs.{next, two-set}
+use Rattle.octets.proofs.Runs.{next, two_set}
 use lib.ListN.{length, set, length-set, length-take, length-drop}
 use native.Mathlib.Omega.{arith}
 use mathlib.Core.List.{[], ◌∷◌}
@@ -36,7 +36,7 @@ returns c =
     let buf = c.before.before.before.before.before.before.args.buf.now in
     let body = c.before.before.before.before.before.before.args.body.now in
     let kind = c.before.before.before.before.before.before.args.kind in
-    next (kind ∷ length body ∷ []) body buf (set (set buf 0 kind) 1 (length body)) c.before.before.copy-in.new.0 2 refl (two-set kind (length body) buf (omega arith)) c.before.before.copy-in.ensures
+    next (kind ∷ length body ∷ []) body buf (set (set buf 0 kind) 1 (length body)) c.before.before.copy-in.new.0 2 refl (two_set kind (length body) buf (omega arith)) c.before.before.copy-in.ensures
 
 pub option-in-spec : {M : Type 1} → statement M
 option-in-spec =

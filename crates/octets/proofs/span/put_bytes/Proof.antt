@@ -1,4 +1,4 @@
-use Rattle.octets.proofs.Runs.{placed-whole, placed-not}
+use Rattle.octets.proofs.Runs.{placed_whole, placed_not}
 use mathlib.Core.Path.{sym, ◌∙◌}
 use native.Mathlib.Omega.{arith}
 use borrow.Author.Rules.{rules}
@@ -7,7 +7,7 @@ use Rattle.octets.proofs.span.put_bytes.Tie as tie
 
 returns : tie.Need-returns
 returns c =
-    let e = placed-not c.before.before.before.args.body.now c.before.before.before.args.buf.now c.if1.true in
+    let e = placed_not c.before.before.before.args.body.now c.before.before.before.args.buf.now c.if1.true in
     (sym e.0, sym e.1)
 
 copy-in-requires : tie.Need-copy-in-requires
@@ -18,7 +18,7 @@ same_length c = search rules
 
 returns-2 : tie.Need-returns-2
 returns-2 c =
-    let e = placed-whole c.before.before.before.before.before.before.before.args.body.now c.before.before.before.before.before.before.before.args.buf.now (omega arith) in
+    let e = placed_whole c.before.before.before.before.before.before.before.args.body.now c.before.before.before.before.before.before.before.args.buf.now (omega arith) in
     (sym e.0, c.before.before.copy-in.ensures ∙ sym e.1)
 
 pub put-bytes-spec : {M : Type 1} → statement M

@@ -1,4 +1,4 @@
-use Rattle.octets.proofs.Runs.{placed_past, placed-lent}
+use Rattle.octets.proofs.Runs.{placed_past, placed_lent}
 use mathlib.Core.Path.{sym}
 use borrow.Author.Rules.{rules}
 use Rattle.octets.proofs.span.put_bytes_at.Statement.{statement}
@@ -27,7 +27,7 @@ same_length c = search rules
 returns-2 : tie.Need-returns-2
 returns-2 c =
     let put = c.before.before.put-bytes in
-    placed-lent c.before.before.before.before.before.before.before.args.body.now c.before.before.before.before.before.before.before.args.buf.now put.new.0 c.before.before.before.before.before.before.before.args.at put.result put.ensures.0 put.ensures.1
+    placed_lent c.before.before.before.before.before.before.before.args.body.now c.before.before.before.before.before.before.before.args.buf.now put.new.0 c.before.before.before.before.before.before.before.args.at put.result put.ensures.0 put.ensures.1
 
 pub put-bytes-at-spec : {M : Type 1} → statement M
 put-bytes-at-spec =

@@ -1,5 +1,5 @@
-use Rattle.octets.proofs.Items.{bytes_of, bytes-long}
-use Rattle.octets.proofs.Runs.{placed-whole, placed-not, placed-none}
+use Rattle.octets.proofs.Items.{bytes_of, bytes_long}
+use Rattle.octets.proofs.Runs.{placed_whole, placed_not, placed_none}
 use Rattle.octets.specs.Items.{option}
 use mathlib.Core.Path.{sym, ◌∙◌}
 use native.Mathlib.Omega.{arith}
@@ -8,14 +8,14 @@ use Rattle.octets.proofs.span.put_option.Statement.{statement}
 use Rattle.octets.proofs.span.put_option.Tie as tie
 
 returns : tie.Need-returns
-returns c = rw (bytes-long c.before.before.before.args.kind c.before.before.before.args.body.now c.if1.true) (sym (placed-none c.before.before.before.args.buf.now).0, sym (placed-none c.before.before.before.args.buf.now).1)
+returns c = rw (bytes_long c.before.before.before.args.kind c.before.before.before.args.body.now c.if1.true) (sym (placed_none c.before.before.before.args.buf.now).0, sym (placed_none c.before.before.before.args.buf.now).1)
 
 add-if2 : tie.Need-overflow-add-if2
 add-if2 c = search rules
 
 returns-2 : tie.Need-returns-2
 returns-2 c =
-    let e = placed-not (option c.before.before.before.before.args.kind c.before.before.before.before.args.body.now) c.before.before.before.before.args.buf.now (omega arith) in
+    let e = placed_not (option c.before.before.before.before.args.kind c.before.before.before.before.args.body.now) c.before.before.before.before.args.buf.now (omega arith) in
     rw (bytes_of c.before.before.before.before.args.kind c.before.before.before.before.args.body.now (omega arith)) (sym e.0, sym e.1)
 
 option-in-requires : tie.Need-option-in-requires
@@ -29,7 +29,7 @@ same_length c = search rules
 
 returns-3 : tie.Need-returns-3
 returns-3 c =
-    let e = placed-whole (option c.before.before.before.before.before.before.before.before.args.kind c.before.before.before.before.before.before.before.before.args.body.now) c.before.before.before.before.before.before.before.before.args.buf.now (omega arith) in
+    let e = placed_whole (option c.before.before.before.before.before.before.before.before.args.kind c.before.before.before.before.before.before.before.before.args.body.now) c.before.before.before.before.before.before.before.before.args.buf.now (omega arith) in
     rw (bytes_of c.before.before.before.before.before.before.before.before.args.kind c.before.before.before.before.before.before.before.before.args.body.now (omega arith)) (omega arith, c.before.before.option-in.ensures ∙ sym e.1)
 
 pub put-option-spec : {M : Type 1} → statement M

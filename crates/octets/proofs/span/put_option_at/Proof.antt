@@ -1,5 +1,5 @@
-use Rattle.octets.proofs.Runs.{placed_past, placed-lent}
-use Rattle.octets.specs.Items.{optionBytes}
+use Rattle.octets.proofs.Runs.{placed_past, placed_lent}
+use Rattle.octets.specs.Items.{option_bytes}
 use mathlib.Core.Path.{sym}
 use borrow.Author.Rules.{rules}
 use Rattle.octets.proofs.span.put_option_at.Statement.{statement}
@@ -7,7 +7,7 @@ use Rattle.octets.proofs.span.put_option_at.Tie as tie
 
 returns : tie.Need-returns
 returns c =
-    let e = placed_past (optionBytes c.before.before.before.args.kind c.before.before.before.args.body.now) c.before.before.before.args.buf.now c.before.before.before.args.at c.if1.true in
+    let e = placed_past (option_bytes c.before.before.before.args.kind c.before.before.before.args.body.now) c.before.before.before.args.buf.now c.before.before.before.args.at c.if1.true in
     (sym e.0, sym e.1)
 
 sub-put-option : tie.Need-overflow-sub-put-option
@@ -28,7 +28,7 @@ same_length c = search rules
 returns-2 : tie.Need-returns-2
 returns-2 c =
     let put = c.before.before.put-option in
-    placed-lent (optionBytes c.before.before.before.before.before.before.before.args.kind c.before.before.before.before.before.before.before.args.body.now) c.before.before.before.before.before.before.before.args.buf.now put.new.0 c.before.before.before.before.before.before.before.args.at put.result put.ensures.0 put.ensures.1
+    placed_lent (option_bytes c.before.before.before.before.before.before.before.args.kind c.before.before.before.before.before.before.before.args.body.now) c.before.before.before.before.before.before.before.args.buf.now put.new.0 c.before.before.before.before.before.before.before.args.at put.result put.ensures.0 put.ensures.1
 
 pub put-option-at-spec : {M : Type 1} → statement M
 put-option-at-spec =

@@ -1,13 +1,13 @@
 use borrow.Author.Rules.{rules}
 use mathlib.Core.Path.{◌≡◌, refl, sym, ◌∙◌}
 use lib.ListN.{length}
-use Rattle.octets.specs.Runs.{sameBytes}
-use Rattle.octets.proofs.Runs.{same-short, same-other, same_more, same_end, part-tail}
+use Rattle.octets.specs.Runs.{same_bytes}
+use Rattle.octets.proofs.Runs.{same_short, same_other, same_more, same_end, part_tail}
 use Rattle.octets.proofs.span.same.Statement.{statement}
 use Rattle.octets.proofs.span.same.Tie as tie
 
 abbrev invariant-loop : tie.invariant-loop
-invariant-loop a b x₀ y₀ x y = sameBytes a b ≡ sameBytes x y
+invariant-loop a b x₀ y₀ x y = same_bytes a b ≡ same_bytes x y
 
 abbrev decreases-loop : tie.decreases-loop
 decreases-loop a b x₀ y₀ x y = length x
@@ -16,7 +16,7 @@ loop-holds : tie.Need-loop-init invariant-loop decreases-loop
 loop-holds c = refl
 
 returns : tie.Need-returns invariant-loop decreases-loop
-returns c = sym (c.before.before.loop.invariant ∙ same-short c.before.before.loop.x.now c.before.before.loop.y.now c.before.loop-test.true c.if1.true)
+returns c = sym (c.before.before.loop.invariant ∙ same_short c.before.before.loop.x.now c.before.before.loop.y.now c.before.loop-test.true c.if1.true)
 
 shared-slice-read-if2 : tie.Need-shared-slice-read-if2 invariant-loop decreases-loop
 shared-slice-read-if2 c = search rules
@@ -25,7 +25,7 @@ shared-slice-read-if2-2 : tie.Need-shared-slice-read-if2-2 invariant-loop decrea
 shared-slice-read-if2-2 c = search rules
 
 returns-2 : tie.Need-returns-2 invariant-loop decreases-loop
-returns-2 c = sym (c.before.before.before.before.before.loop.invariant ∙ same-other c.before.before.before.before.before.loop.x.now c.before.before.before.before.before.loop.y.now c.before.before.before.before.loop-test.true c.before.before.before.if1.false c.if2.true)
+returns-2 c = sym (c.before.before.before.before.before.loop.invariant ∙ same_other c.before.before.before.before.before.loop.x.now c.before.before.before.before.before.loop.y.now c.before.before.before.before.loop-test.true c.before.before.before.if1.false c.if2.true)
 
 sub-x : tie.Need-overflow-sub-x invariant-loop decreases-loop
 sub-x c = search rules
@@ -52,7 +52,7 @@ loop-again : tie.Need-loop-preserved invariant-loop decreases-loop
 loop-again c =
     let x = c.before.before.before.before.before.before.before.loop.x.now in
     let y = c.before.before.before.before.before.before.before.loop.y.now in
-    c.before.before.before.before.before.before.before.loop.invariant ∙ same_more x y c.before.before.before.before.before.before.loop-test.true c.before.before.before.before.before.if1.false c.before.before.if2.false ∙ (λ k. sameBytes (sym (part-tail 1 x) k) (sym (part-tail 1 y) k))
+    c.before.before.before.before.before.before.before.loop.invariant ∙ same_more x y c.before.before.before.before.before.before.loop-test.true c.before.before.before.before.before.if1.false c.before.before.if2.false ∙ (λ k. same_bytes (sym (part_tail 1 x) k) (sym (part_tail 1 y) k))
 
 returns-3 : tie.Need-returns-3 invariant-loop decreases-loop
 returns-3 c = sym (c.before.loop.invariant ∙ same_end c.before.loop.x.now c.before.loop.y.now c.loop-test.false)

@@ -3,23 +3,23 @@ use lib.ListN.{length}
 use native.Mathlib.Omega.{arith}
 use borrow.Author.Tests.{le-leb, lt-leb}
 use mathlib.Core.Path.{refl, ap}
-use Rattle.choice.proofs.Choices.{if-true, if-false}
-use Rattle.octets.specs.Words.{word32At}
+use Rattle.choice.proofs.Choices.{if_true, if_false}
+use Rattle.octets.specs.Words.{word32_at}
 use Rattle.octets.specs.declared.number.MaybeNumber.TheVariants.{Some}
 use borrow.Author.Rules.{rules}
 use Rattle.octets.proofs.word.read_u32.Statement.{statement}
 use Rattle.octets.proofs.word.read_u32.Tie as tie
 
 returns : tie.Need-returns
-unfolding word32At
-returns c = let h : length c.before.before.args.s.now < c.before.before.args.at + 4 = omega arith in if-false _ (lt-leb _ _ h) refl
+unfolding word32_at
+returns c = let h : length c.before.before.args.s.now < c.before.before.args.at + 4 = omega arith in if_false _ (lt-leb _ _ h) refl
 
 sub-if2 : tie.Need-overflow-sub-if2
 sub-if2 c = search rules
 
 returns-2 : tie.Need-returns-2
-unfolding word32At
-returns-2 c = let h : length c.before.before.before.args.s.now < c.before.before.before.args.at + 4 = omega arith in if-false _ (lt-leb _ _ h) refl
+unfolding word32_at
+returns-2 c = let h : length c.before.before.before.args.s.now < c.before.before.before.args.at + 4 = omega arith in if_false _ (lt-leb _ _ h) refl
 
 shared-slice-read-join4 : tie.Need-shared-slice-read-join4
 shared-slice-read-join4 c = search rules
@@ -46,8 +46,8 @@ join4-requires : tie.Need-join4-requires
 join4-requires c κs = search rules
 
 returns-3 : tie.Need-returns-3
-unfolding word32At
-returns-3 c = let h : c.before.before.before.before.before.before.before.before.args.at + 4 ≤ length c.before.before.before.before.before.before.before.before.args.s.now = omega arith in if-true _ (le-leb _ _ h) (ap Some c.join4.ensures)
+unfolding word32_at
+returns-3 c = let h : c.before.before.before.before.before.before.before.before.args.at + 4 ≤ length c.before.before.before.before.before.before.before.before.args.s.now = omega arith in if_true _ (le-leb _ _ h) (ap Some c.join4.ensures)
 
 pub read-u32-spec : {M : Type 1} → statement M
 read-u32-spec =

@@ -1,6 +1,6 @@
 use mathlib.Core.Path.{sym}
 use borrow.Author.Rules.{rules}
-use Rattle.sending.specs.Sendings.{wrote, leftIn}
+use Rattle.sending.specs.Sendings.{wrote, left_in}
 use Rattle.sending.proofs.sending.write.Statement.{statement}
 use Rattle.sending.proofs.sending.write.Tie as tie
 
@@ -17,7 +17,7 @@ same_length : tie.Need-same-length
 same_length c = search rules
 
 returns : tie.Need-returns
-unfolding wrote leftIn
+unfolding wrote left_in
 returns c = rw (sym c.before.before.before.before.before.fields.ensures) (rw (sym c.before.before.before.before.endpoints.ensures) c.before.before.write.ensures)
 
 pub write_spec : {M : Type 1} → statement M

@@ -1,35 +1,35 @@
-use Rattle.trace.specs.Digits.{digitOf}
+use Rattle.trace.specs.Digits.{digit_of}
 use mathlib.Core.Path.{refl}
-use Rattle.choice.proofs.Choices.{if-true, if-false, tests}
+use Rattle.choice.proofs.Choices.{if_true, if_false, tests}
 use borrow.Author.Rules.{rules}
 use Rattle.trace.proofs.digit.digit.Statement.{statement}
 use Rattle.trace.proofs.digit.digit.Tie as tie
 
 returns : tie.Need-returns
-unfolding digitOf
-returns c = if-true _ (search tests) refl
+unfolding digit_of
+returns c = if_true _ (search tests) refl
 
 sub-result : tie.Need-overflow-sub-result
 sub-result c = search rules
 
 returns-2 : tie.Need-returns-2
-unfolding digitOf
-returns-2 c = if-false _ (search tests) (if-true _ (search tests) refl)
+unfolding digit_of
+returns-2 c = if_false _ (search tests) (if_true _ (search tests) refl)
 
 returns-3 : tie.Need-returns-3
-unfolding digitOf
-returns-3 c = if-false _ (search tests) (if-false _ (search tests) (if-true _ (search tests) refl))
+unfolding digit_of
+returns-3 c = if_false _ (search tests) (if_false _ (search tests) (if_true _ (search tests) refl))
 
 sub-result-2 : tie.Need-overflow-sub-result-2
 sub-result-2 c = search rules
 
 returns-4 : tie.Need-returns-4
-unfolding digitOf
-returns-4 c = if-false _ (search tests) (if-false _ (search tests) (if-false _ (search tests) (if-true _ (search tests) refl)))
+unfolding digit_of
+returns-4 c = if_false _ (search tests) (if_false _ (search tests) (if_false _ (search tests) (if_true _ (search tests) refl)))
 
 returns-5 : tie.Need-returns-5
-unfolding digitOf
-returns-5 c = if-false _ (search tests) (if-false _ (search tests) (if-false _ (search tests) (if-false _ (search tests) (refl))))
+unfolding digit_of
+returns-5 c = if_false _ (search tests) (if_false _ (search tests) (if_false _ (search tests) (if_false _ (search tests) (refl))))
 
 pub digit-spec : {M : Type 1} → statement M
 digit-spec =

@@ -3,14 +3,14 @@ use Prim.Native.Nat.{◌+◌, ◌≤◌}
 use lib.ListN.{length}
 use native.Mathlib.Omega.{arith}
 use mathlib.Core.Path.{◌≡◌, sym, ap, ◌∙◌}
-use Rattle.octets.proofs.Runs.{part-tail}
-use Rattle.trace.specs.Digits.{pairsOf}
-use Rattle.trace.proofs.Digits.{pairs-more, pairs_end, pairs-short}
+use Rattle.octets.proofs.Runs.{part_tail}
+use Rattle.trace.specs.Digits.{pairs_of}
+use Rattle.trace.proofs.Digits.{pairs_more, pairs_end, pairs_short}
 use Rattle.trace.proofs.digit.pair_count.Statement.{statement}
 use Rattle.trace.proofs.digit.pair_count.Tie as tie
 
 abbrev invariant-loop : tie.invariant-loop
-invariant-loop text t₀ n₀ t n = (n + length t ≤ length text) × (pairsOf text ≡ n + pairsOf t)
+invariant-loop text t₀ n₀ t n = (n + length t ≤ length text) × (pairs_of text ≡ n + pairs_of t)
 
 abbrev decreases-loop : tie.decreases-loop
 decreases-loop text t₀ n₀ t n = length t
@@ -47,8 +47,8 @@ loop-less c = search rules
 
 loop-again : tie.Need-loop-preserved invariant-loop decreases-loop
 loop-again c = let t = c.before.before.before.before.before.before.before.loop.t.now in
-    let more = pairs-more t _ c.before.before.before.before.before.before.loop-test.true (sym c.before.before.before.octet.ensures ∙ c.before.enum_told.given.1) in
-    (search rules, omega (arith, c.before.before.before.before.before.before.before.loop.invariant.1, more, ap pairsOf (part-tail 2 t)))
+    let more = pairs_more t _ c.before.before.before.before.before.before.loop-test.true (sym c.before.before.before.octet.ensures ∙ c.before.enum_told.given.1) in
+    (search rules, omega (arith, c.before.before.before.before.before.before.before.loop.invariant.1, more, ap pairs_of (part_tail 2 t)))
 
 enum-told-2 : tie.Need-enum-told-2 invariant-loop decreases-loop
 enum-told-2 c = search rules
@@ -57,7 +57,7 @@ returns : tie.Need-returns invariant-loop decreases-loop
 returns c = omega (arith, c.before.before.before.before.before.before.loop.invariant.1, pairs_end c.before.before.before.before.before.before.loop.t.now c.before.before.before.before.before.loop-test.true (sym c.before.before.octet.ensures ∙ c.enum-told2.given.1))
 
 returns-2 : tie.Need-returns-2 invariant-loop decreases-loop
-returns-2 c = omega (arith, c.before.loop.invariant.1, pairs-short c.before.loop.t.now c.loop-test.false)
+returns-2 c = omega (arith, c.before.loop.invariant.1, pairs_short c.before.loop.t.now c.loop-test.false)
 
 pub pair-count-spec : {M : Type 1} → statement M
 pair-count-spec =

@@ -1,6 +1,6 @@
 use mathlib.Core.Path.{refl, sym, ◌∙◌}
 use Rattle.trace.specs.Forms.{letterTaken}
-use Rattle.choice.proofs.Choices.{if-true, if-false}
+use Rattle.choice.proofs.Choices.{if_true, if_false}
 use borrow.Author.Rules.{rules}
 use Rattle.trace.proofs.gap.letter_taken.Statement.{statement}
 use Rattle.trace.proofs.gap.letter_taken.Tie as tie
@@ -10,11 +10,11 @@ starts-requires c κs = search rules
 
 returns : tie.Need-returns
 unfolding letterTaken
-returns c = if-true _ (sym c.before.starts.ensures ∙ c.if1.true) refl
+returns c = if_true _ (sym c.before.starts.ensures ∙ c.if1.true) refl
 
 returns-2 : tie.Need-returns-2
 unfolding letterTaken
-returns-2 c = if-false _ (sym c.before.starts.ensures ∙ c.if1.false) refl
+returns-2 c = if_false _ (sym c.before.starts.ensures ∙ c.if1.false) refl
 
 pub letter-taken-spec : {M : Type 1} → statement M
 letter-taken-spec = tie.close (tie.spec starts-requires returns returns-2)

@@ -2,7 +2,7 @@ use mathlib.Core.Path.{sym, ◌∙◌}
 use Rattle.trace.specs.Forms.{number_of}
 use Rattle.trace.proofs.Forms.{number_by}
 use borrow.Author.Tests.{eq-eqb}
-use Rattle.choice.proofs.Choices.{if-true}
+use Rattle.choice.proofs.Choices.{if_true}
 use borrow.Author.Rules.{rules}
 use Rattle.trace.proofs.gap.number_of.Statement.{statement}
 use Rattle.trace.proofs.gap.number_of.Tie as tie
@@ -12,7 +12,7 @@ address-requires c κs = search rules
 
 returns : tie.Need-returns
 unfolding number_of
-returns c = if-true _ (eq-eqb _ _ c.before.if1.true) c.address.ensures
+returns c = if_true _ (eq-eqb _ _ c.before.if1.true) c.address.ensures
 
 limit-of-requires : tie.Need-limit-of-requires
 limit-of-requires c κs = search rules

@@ -1,7 +1,7 @@
 use mathlib.Core.Path.{refl}
-use Rattle.trace.specs.Forms.{partSize}
+use Rattle.trace.specs.Forms.{part_size}
 use borrow.Author.Tests.{eq-eqb, ne_eqb}
-use Rattle.choice.proofs.Choices.{if-true, if-false}
+use Rattle.choice.proofs.Choices.{if_true, if_false}
 use borrow.Author.Rules.{rules}
 use Rattle.trace.proofs.gap.part_len.Statement.{statement}
 use Rattle.trace.proofs.gap.part_len.Tie as tie
@@ -10,16 +10,16 @@ shared-slice-read-if1 : tie.Need-shared-slice-read-if1
 shared-slice-read-if1 c = search rules
 
 returns : tie.Need-returns
-unfolding partSize
-returns c = if-false _ (ne_eqb _ _ c.if1.true) refl
+unfolding part_size
+returns c = if_false _ (ne_eqb _ _ c.if1.true) refl
 
 returns-2 : tie.Need-returns-2
-unfolding partSize
-returns-2 c = if-true _ (eq-eqb _ _ c.before.if1.false) (if-true _ (eq-eqb _ _ c.if2.true) refl)
+unfolding part_size
+returns-2 c = if_true _ (eq-eqb _ _ c.before.if1.false) (if_true _ (eq-eqb _ _ c.if2.true) refl)
 
 returns-3 : tie.Need-returns-3
-unfolding partSize
-returns-3 c = if-true _ (eq-eqb _ _ c.before.if1.false) (if-false _ (ne_eqb _ _ c.if2.false) refl)
+unfolding part_size
+returns-3 c = if_true _ (eq-eqb _ _ c.before.if1.false) (if_false _ (ne_eqb _ _ c.if2.false) refl)
 
 pub part-len-spec : {M : Type 1} → statement M
 part-len-spec = tie.close (tie.spec shared-slice-read-if1 returns returns-2 returns-3)

@@ -1,7 +1,7 @@
 use native.Mathlib.Omega.{arith}
 use mathlib.Core.Path.{ap}
-use Rattle.octets.proofs.Runs.{part-tail}
-use Rattle.trace.specs.Lines.{lineLength}
+use Rattle.octets.proofs.Runs.{part_tail}
+use Rattle.trace.specs.Lines.{line_length}
 use borrow.Author.Rules.{rules}
 use Rattle.trace.proofs.line.after_line.Statement.{statement}
 use Rattle.trace.proofs.line.after_line.Tie as tie
@@ -32,11 +32,11 @@ add-result-2 c = search rules
 
 returns-2 : tie.Need-returns-2
 returns-2 c = let a = c.before.before.before.before.before.args in
-    omega (arith, c.before.line-len.ensures, ap lineLength (part-tail a.at a.text.now))
+    omega (arith, c.before.line-len.ensures, ap line_length (part_tail a.at a.text.now))
 
 returns-3 : tie.Need-returns-3
 returns-3 c = let a = c.before.before.before.before.before.args in
-    omega (arith, c.before.line-len.ensures, ap lineLength (part-tail a.at a.text.now))
+    omega (arith, c.before.line-len.ensures, ap line_length (part_tail a.at a.text.now))
 
 pub after-line-spec : {M : Type 1} → statement M
 after-line-spec =

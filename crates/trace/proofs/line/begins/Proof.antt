@@ -1,14 +1,14 @@
 use borrow.Author.Rules.{rules}
 use lib.ListN.{length}
 use mathlib.Core.Path.{◌≡◌, refl, sym, ◌∙◌}
-use Rattle.octets.proofs.Runs.{part-tail}
-use Rattle.trace.specs.Lines.{beginsWith}
-use Rattle.trace.proofs.Lines.{begins-short, begins-other, begins-more, begins-all}
+use Rattle.octets.proofs.Runs.{part_tail}
+use Rattle.trace.specs.Lines.{begins_with}
+use Rattle.trace.proofs.Lines.{begins_short, begins_other, begins_more, begins_all}
 use Rattle.trace.proofs.line.begins.Statement.{statement}
 use Rattle.trace.proofs.line.begins.Tie as tie
 
 abbrev invariant-loop : tie.invariant-loop
-invariant-loop line start x₀ y₀ x y = beginsWith start line ≡ beginsWith x y
+invariant-loop line start x₀ y₀ x y = begins_with start line ≡ begins_with x y
 
 abbrev decreases-loop : tie.decreases-loop
 decreases-loop line start x₀ y₀ x y = length x
@@ -17,7 +17,7 @@ loop-holds : tie.Need-loop-init invariant-loop decreases-loop
 loop-holds c = refl
 
 returns : tie.Need-returns invariant-loop decreases-loop
-returns c = sym (c.before.before.loop.invariant ∙ begins-short c.before.before.loop.x.now c.before.before.loop.y.now c.before.loop-test.true c.if1.true)
+returns c = sym (c.before.before.loop.invariant ∙ begins_short c.before.before.loop.x.now c.before.before.loop.y.now c.before.loop-test.true c.if1.true)
 
 shared-slice-read-if2 : tie.Need-shared-slice-read-if2 invariant-loop decreases-loop
 shared-slice-read-if2 c = search rules
@@ -26,7 +26,7 @@ shared-slice-read-if2-2 : tie.Need-shared-slice-read-if2-2 invariant-loop decrea
 shared-slice-read-if2-2 c = search rules
 
 returns-2 : tie.Need-returns-2 invariant-loop decreases-loop
-returns-2 c = sym (c.before.before.before.before.before.loop.invariant ∙ begins-other c.before.before.before.before.before.loop.x.now c.before.before.before.before.before.loop.y.now c.before.before.before.before.loop-test.true c.before.before.before.if1.false c.if2.true)
+returns-2 c = sym (c.before.before.before.before.before.loop.invariant ∙ begins_other c.before.before.before.before.before.loop.x.now c.before.before.before.before.before.loop.y.now c.before.before.before.before.loop-test.true c.before.before.before.if1.false c.if2.true)
 
 sub-x : tie.Need-overflow-sub-x invariant-loop decreases-loop
 sub-x c = search rules
@@ -52,10 +52,10 @@ loop-less c = search rules
 loop-again : tie.Need-loop-preserved invariant-loop decreases-loop
 loop-again c = let x = c.before.before.before.before.before.before.before.loop.x.now in
     let y = c.before.before.before.before.before.before.before.loop.y.now in
-    c.before.before.before.before.before.before.before.loop.invariant ∙ begins-more x y c.before.before.before.before.before.before.loop-test.true c.before.before.before.before.before.if1.false c.before.before.if2.false ∙ (λ k. beginsWith (sym (part-tail 1 x) k) (sym (part-tail 1 y) k))
+    c.before.before.before.before.before.before.before.loop.invariant ∙ begins_more x y c.before.before.before.before.before.before.loop-test.true c.before.before.before.before.before.if1.false c.before.before.if2.false ∙ (λ k. begins_with (sym (part_tail 1 x) k) (sym (part_tail 1 y) k))
 
 returns-3 : tie.Need-returns-3 invariant-loop decreases-loop
-returns-3 c = sym (c.before.loop.invariant ∙ begins-all c.before.loop.x.now c.before.loop.y.now c.loop-test.false)
+returns-3 c = sym (c.before.loop.invariant ∙ begins_all c.before.loop.x.now c.before.loop.y.now c.loop-test.false)
 
 pub begins-spec : {M : Type 1} → statement M
 begins-spec =

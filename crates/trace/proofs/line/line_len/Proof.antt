@@ -3,14 +3,14 @@ use Prim.Native.Nat.{◌+◌, ◌≤◌}
 use lib.ListN.{length}
 use native.Mathlib.Omega.{arith}
 use mathlib.Core.Path.{◌≡◌, ap}
-use Rattle.octets.proofs.Runs.{part-tail}
-use Rattle.trace.specs.Lines.{lineLength}
-use Rattle.trace.proofs.Lines.{line-end, line-more, line-none}
+use Rattle.octets.proofs.Runs.{part_tail}
+use Rattle.trace.specs.Lines.{line_length}
+use Rattle.trace.proofs.Lines.{line_end_lem, line_more, line_none}
 use Rattle.trace.proofs.line.line_len.Statement.{statement}
 use Rattle.trace.proofs.line.line_len.Tie as tie
 
 abbrev invariant-loop : tie.invariant-loop
-invariant-loop text t₀ n₀ t n = (n + length t ≤ length text) × (lineLength text ≡ n + lineLength t)
+invariant-loop text t₀ n₀ t n = (n + length t ≤ length text) × (line_length text ≡ n + line_length t)
 
 abbrev decreases-loop : tie.decreases-loop
 decreases-loop text t₀ n₀ t n = length t
@@ -22,7 +22,7 @@ shared-slice-read-if1 : tie.Need-shared-slice-read-if1 invariant-loop decreases-
 shared-slice-read-if1 c = search rules
 
 returns : tie.Need-returns invariant-loop decreases-loop
-returns c = omega (arith, c.before.before.before.loop.invariant.1, line-end c.before.before.before.loop.t.now c.before.before.loop-test.true c.if1.true)
+returns c = omega (arith, c.before.before.before.loop.invariant.1, line_end_lem c.before.before.before.loop.t.now c.before.before.loop-test.true c.if1.true)
 
 add-n : tie.Need-overflow-add-n invariant-loop decreases-loop
 add-n c = search rules
@@ -41,10 +41,10 @@ loop-less c = search rules
 
 loop-again : tie.Need-loop-preserved invariant-loop decreases-loop
 loop-again c = let t = c.before.before.before.before.loop.t.now in
-    (search rules, omega (arith, c.before.before.before.before.loop.invariant.1, line-more t c.before.before.before.loop-test.true c.before.if1.false, ap lineLength (part-tail 1 t)))
+    (search rules, omega (arith, c.before.before.before.before.loop.invariant.1, line_more t c.before.before.before.loop-test.true c.before.if1.false, ap line_length (part_tail 1 t)))
 
 returns-2 : tie.Need-returns-2 invariant-loop decreases-loop
-returns-2 c = omega (arith, c.before.loop.invariant.1, line-none c.before.loop.t.now c.loop-test.false)
+returns-2 c = omega (arith, c.before.loop.invariant.1, line_none c.before.loop.t.now c.loop-test.false)
 
 pub line-len-spec : {M : Type 1} → statement M
 line-len-spec =

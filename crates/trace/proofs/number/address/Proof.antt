@@ -1,7 +1,7 @@
 use native.Mathlib.Omega.{arith}
 use mathlib.Core.Path.{ap, ◌∙◌}
 use Rattle.trace.specs.Numbers.{dotted, address}
-use Rattle.trace.proofs.Numbers.{bounded_of, bounded-less, bounded-decimal, bounded-dotted}
+use Rattle.trace.proofs.Numbers.{bounded_of, bounded_less, bounded_decimal, bounded_dotted}
 use borrow.Author.Rules.{rules}
 use Rattle.trace.proofs.number.address.Statement.{statement}
 use Rattle.trace.proofs.number.address.Tie as tie
@@ -10,13 +10,13 @@ decimal-requires : tie.Need-decimal-requires
 decimal-requires c κs = search rules
 
 dotted-requires : tie.Need-dotted-requires
-dotted-requires c κs = bounded-less (bounded_of c.decimal.ensures (bounded-decimal 255 c.before.before.args.text.now)) (omega arith) (omega arith)
+dotted-requires c κs = bounded_less (bounded_of c.decimal.ensures (bounded_decimal 255 c.before.before.args.text.now)) (omega arith) (omega arith)
 
 dotted-requires-2 : tie.Need-dotted-requires-2
-dotted-requires-2 c κs = bounded-less (bounded_of c.dotted.ensures (bounded-dotted 255 c.before.before.before.args.text.now c.before.decimal.result (bounded_of c.before.decimal.ensures (bounded-decimal 255 c.before.before.before.args.text.now)))) (omega arith) (omega arith)
+dotted-requires-2 c κs = bounded_less (bounded_of c.dotted.ensures (bounded_dotted 255 c.before.before.before.args.text.now c.before.decimal.result (bounded_of c.before.decimal.ensures (bounded_decimal 255 c.before.before.before.args.text.now)))) (omega arith) (omega arith)
 
 dotted-requires-3 : tie.Need-dotted-requires-3
-dotted-requires-3 c κs = (bounded_of c.dotted2.ensures (bounded-dotted 65535 c.before.before.before.before.args.text.now c.before.dotted.result (bounded_of c.before.dotted.ensures (bounded-dotted 255 c.before.before.before.before.args.text.now c.before.before.decimal.result (bounded_of c.before.before.decimal.ensures (bounded-decimal 255 c.before.before.before.before.args.text.now))))))
+dotted-requires-3 c κs = (bounded_of c.dotted2.ensures (bounded_dotted 65535 c.before.before.before.before.args.text.now c.before.dotted.result (bounded_of c.before.dotted.ensures (bounded_dotted 255 c.before.before.before.before.args.text.now c.before.before.decimal.result (bounded_of c.before.before.decimal.ensures (bounded_decimal 255 c.before.before.before.before.args.text.now))))))
 
 returns : tie.Need-returns
 unfolding address

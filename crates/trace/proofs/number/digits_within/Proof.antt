@@ -3,21 +3,21 @@ use Prim.Native.Nat.{◌+◌, ◌*◌, ◌≤◌}
 use lib.ListN.{length, drop, get_or}
 use native.Mathlib.Omega.{arith}
 use mathlib.Core.Path.{◌≡◌, sym, ap, ◌∙◌}
-use Rattle.octets.proofs.Runs.{part-tail}
-use Rattle.trace.specs.Digits.{digitOf}
-use Rattle.trace.specs.Numbers.{digitsOf, within}
-use Rattle.trace.proofs.Numbers.{digits-none, digits-end, digits_more, onward, onward-start, onward-end, onward-over, onward-more}
+use Rattle.octets.proofs.Runs.{part_tail}
+use Rattle.trace.specs.Digits.{digit_of}
+use Rattle.trace.specs.Numbers.{digits_of, within}
+use Rattle.trace.proofs.Numbers.{digits_none, digits_end, digits_more, onward, onward_start, onward_end, onward_over, onward_more}
 use Rattle.trace.proofs.number.digits_within.Statement.{statement}
 use Rattle.trace.proofs.number.digits_within.Tie as tie
 
 abbrev invariant-loop : tie.invariant-loop
-invariant-loop text most t₀ value₀ len₀ t value len = (len + length t ≤ length text) × (value ≤ most) × (within most (digitsOf text) ≡ onward most value len (digitsOf t))
+invariant-loop text most t₀ value₀ len₀ t value len = (len + length t ≤ length text) × (value ≤ most) × (within most (digits_of text) ≡ onward most value len (digits_of t))
 
 abbrev decreases-loop : tie.decreases-loop
 decreases-loop text most t₀ value₀ len₀ t value len = length t
 
 loop-holds : tie.Need-loop-init invariant-loop decreases-loop
-loop-holds c = (omega arith, omega arith, onward-start c.before.args.most (digitsOf c.before.args.text.now))
+loop-holds c = (omega arith, omega arith, onward_start c.before.args.most (digits_of c.before.args.text.now))
 
 shared-slice-read-digit : tie.Need-shared-slice-read-digit invariant-loop decreases-loop
 shared-slice-read-digit c = search rules
@@ -30,17 +30,17 @@ cast-d c = search rules
 
 returns : tie.Need-returns invariant-loop decreases-loop
 returns c = let t = c.before.before.before.before.loop.t.now in
-    sym (c.before.before.before.before.loop.invariant.2 ∙ onward-end c.before.before.before.before.before.before.args.most c.before.before.before.before.loop.value c.before.before.before.before.loop.len (digits-end t c.before.before.before.loop-test.true (omega arith)) c.before.before.before.before.loop.invariant.1)
+    sym (c.before.before.before.before.loop.invariant.2 ∙ onward_end c.before.before.before.before.before.before.args.most c.before.before.before.before.loop.value c.before.before.before.before.loop.len (digits_end t c.before.before.before.loop-test.true (omega arith)) c.before.before.before.before.loop.invariant.1)
 
 returns-2 : tie.Need-returns-2 invariant-loop decreases-loop
 returns-2 c = let t = c.before.before.before.before.before.loop.t.now in
-    let d = digitOf (get_or t 0 0) in
-    sym (c.before.before.before.before.before.loop.invariant.2 ∙ ap (onward c.before.before.before.before.before.before.before.args.most c.before.before.before.before.before.loop.value c.before.before.before.before.before.loop.len) (digits_more t c.before.before.before.before.loop-test.true (omega arith)) ∙ onward-over c.before.before.before.before.before.before.before.args.most c.before.before.before.before.before.loop.value c.before.before.before.before.before.loop.len d (digitsOf (drop 1 t)) (omega arith))
+    let d = digit_of (get_or t 0 0) in
+    sym (c.before.before.before.before.before.loop.invariant.2 ∙ ap (onward c.before.before.before.before.before.before.before.args.most c.before.before.before.before.before.loop.value c.before.before.before.before.before.loop.len) (digits_more t c.before.before.before.before.loop-test.true (omega arith)) ∙ onward_over c.before.before.before.before.before.before.before.args.most c.before.before.before.before.before.loop.value c.before.before.before.before.before.loop.len d (digits_of (drop 1 t)) (omega arith))
 
 returns-3 : tie.Need-returns-3 invariant-loop decreases-loop
 returns-3 c = let t = c.before.before.before.before.before.before.loop.t.now in
-    let d = digitOf (get_or t 0 0) in
-    sym (c.before.before.before.before.before.before.loop.invariant.2 ∙ ap (onward c.before.before.before.before.before.before.before.before.args.most c.before.before.before.before.before.before.loop.value c.before.before.before.before.before.before.loop.len) (digits_more t c.before.before.before.before.before.loop-test.true (omega arith)) ∙ onward-over c.before.before.before.before.before.before.before.before.args.most c.before.before.before.before.before.before.loop.value c.before.before.before.before.before.before.loop.len d (digitsOf (drop 1 t)) (omega arith))
+    let d = digit_of (get_or t 0 0) in
+    sym (c.before.before.before.before.before.before.loop.invariant.2 ∙ ap (onward c.before.before.before.before.before.before.before.before.args.most c.before.before.before.before.before.before.loop.value c.before.before.before.before.before.before.loop.len) (digits_more t c.before.before.before.before.before.loop-test.true (omega arith)) ∙ onward_over c.before.before.before.before.before.before.before.before.args.most c.before.before.before.before.before.before.loop.value c.before.before.before.before.before.before.loop.len d (digits_of (drop 1 t)) (omega arith))
 
 mul-value : tie.Need-overflow-mul-value invariant-loop decreases-loop
 mul-value c = search rules
@@ -65,13 +65,13 @@ loop-less c = search rules
 
 loop-again : tie.Need-loop-preserved invariant-loop decreases-loop
 loop-again c = let t = c.before.before.before.before.before.before.before.loop.t.now in
-    let d = digitOf (get_or t 0 0) in
+    let d = digit_of (get_or t 0 0) in
     let e = c.before.before.before.before.digit.ensures in
-    let rest = ap digitsOf (sym (part-tail 1 t)) in
-    (omega arith, omega arith, c.before.before.before.before.before.before.before.loop.invariant.2 ∙ ap (onward c.before.before.before.before.before.before.before.before.before.args.most c.before.before.before.before.before.before.before.loop.value c.before.before.before.before.before.before.before.loop.len) (digits_more t c.before.before.before.before.before.before.loop-test.true (omega arith)) ∙ onward-more c.before.before.before.before.before.before.before.before.before.args.most c.before.before.before.before.before.before.before.loop.value c.before.before.before.before.before.before.before.loop.len d (digitsOf (drop 1 t)) ∙ (λ k. onward c.before.before.before.before.before.before.before.before.before.args.most (c.before.before.before.before.before.before.before.loop.value * 10 + sym e k) (c.before.before.before.before.before.before.before.loop.len + 1) (rest k)))
+    let rest = ap digits_of (sym (part_tail 1 t)) in
+    (omega arith, omega arith, c.before.before.before.before.before.before.before.loop.invariant.2 ∙ ap (onward c.before.before.before.before.before.before.before.before.before.args.most c.before.before.before.before.before.before.before.loop.value c.before.before.before.before.before.before.before.loop.len) (digits_more t c.before.before.before.before.before.before.loop-test.true (omega arith)) ∙ onward_more c.before.before.before.before.before.before.before.before.before.args.most c.before.before.before.before.before.before.before.loop.value c.before.before.before.before.before.before.before.loop.len d (digits_of (drop 1 t)) ∙ (λ k. onward c.before.before.before.before.before.before.before.before.before.args.most (c.before.before.before.before.before.before.before.loop.value * 10 + sym e k) (c.before.before.before.before.before.before.before.loop.len + 1) (rest k)))
 
 returns-4 : tie.Need-returns-4 invariant-loop decreases-loop
-returns-4 c = sym (c.before.loop.invariant.2 ∙ onward-end c.before.before.before.args.most c.before.loop.value c.before.loop.len (digits-none c.before.loop.t.now c.loop-test.false) c.before.loop.invariant.1)
+returns-4 c = sym (c.before.loop.invariant.2 ∙ onward_end c.before.before.before.args.most c.before.loop.value c.before.loop.len (digits_none c.before.loop.t.now c.loop-test.false) c.before.loop.invariant.1)
 
 pub digits-within-spec : {M : Type 1} → statement M
 digits-within-spec =

@@ -1,10 +1,10 @@
 use native.Mathlib.Omega.{arith}
 use mathlib.Core.Path.{sym, ap, ◌∙◌}
 use borrow.Author.Tests.{not-true, not-false}
-use Rattle.octets.proofs.Runs.{part-tail}
+use Rattle.octets.proofs.Runs.{part_tail}
 use Rattle.trace.specs.Lines.{starts_with}
 use Rattle.trace.specs.Numbers.{dot, dotted, value_of, size_of}
-use Rattle.trace.proofs.Numbers.{starts-inside, dotted-stop, dotted-more, low-bounded}
+use Rattle.trace.proofs.Numbers.{starts_inside, dotted_stop, dotted_more, low_bounded}
 use borrow.Author.Rules.{rules}
 use Rattle.trace.proofs.number.dotted.Statement.{statement}
 use Rattle.trace.proofs.number.dotted.Tie as tie
@@ -25,16 +25,16 @@ starts-requires : tie.Need-starts-requires
 starts-requires c κs = search rules
 
 returns : tie.Need-returns
-returns c = dotted-stop c.before.before.before.before.before.before.before.args.text.now c.before.before.before.before.first.given.0.0 c.before.before.before.before.first.given.0.1.0 c.before.before.before.before.first.given.1 (ap (starts_with dot) (sym (part-tail c.before.before.before.before.first.given.0.1.0 c.before.before.before.before.before.before.before.args.text.now)) ∙ sym c.before.starts.ensures ∙ not-true _ c.if1.true)
+returns c = dotted_stop c.before.before.before.before.before.before.before.args.text.now c.before.before.before.before.first.given.0.0 c.before.before.before.before.first.given.0.1.0 c.before.before.before.before.first.given.1 (ap (starts_with dot) (sym (part_tail c.before.before.before.before.first.given.0.1.0 c.before.before.before.before.before.before.before.args.text.now)) ∙ sym c.before.starts.ensures ∙ not-true _ c.if1.true)
 
 add_at : tie.Need-overflow-add-at
 add_at c = omega (arith, ap size_of c.before.before.before.before.first.given.1)
 
 sub-decimal : tie.Need-overflow-sub-decimal
-sub-decimal c = omega (arith, starts-inside dot c.before.before.before.before.first.given.0.1.0 c.before.before.before.before.before.before.before.args.text.now (ap (starts_with dot) (sym (part-tail c.before.before.before.before.first.given.0.1.0 c.before.before.before.before.before.before.before.args.text.now)) ∙ sym c.before.starts.ensures ∙ not-false _ c.if1.false))
+sub-decimal c = omega (arith, starts_inside dot c.before.before.before.before.first.given.0.1.0 c.before.before.before.before.before.before.before.args.text.now (ap (starts_with dot) (sym (part_tail c.before.before.before.before.first.given.0.1.0 c.before.before.before.before.before.before.before.args.text.now)) ∙ sym c.before.starts.ensures ∙ not-false _ c.if1.false))
 
 part-decimal-start : tie.Need-slice-bounds-decimal-start
-part-decimal-start c = omega (arith, starts-inside dot c.before.before.before.before.first.given.0.1.0 c.before.before.before.before.before.before.before.args.text.now (ap (starts_with dot) (sym (part-tail c.before.before.before.before.first.given.0.1.0 c.before.before.before.before.before.before.before.args.text.now)) ∙ sym c.before.starts.ensures ∙ not-false _ c.if1.false))
+part-decimal-start c = omega (arith, starts_inside dot c.before.before.before.before.first.given.0.1.0 c.before.before.before.before.before.before.before.args.text.now (ap (starts_with dot) (sym (part_tail c.before.before.before.before.first.given.0.1.0 c.before.before.before.before.before.before.before.args.text.now)) ∙ sym c.before.starts.ensures ∙ not-false _ c.if1.false))
 
 part-decimal-end : tie.Need-slice-bounds-decimal-end
 part-decimal-end c = search rules
@@ -43,13 +43,13 @@ decimal-requires : tie.Need-decimal-requires
 decimal-requires c κs = search rules
 
 joined-requires : tie.Need-joined-requires
-joined-requires c κs = (omega (arith, ap value_of c.before.before.before.before.before.before.first.given.1), low-bounded c.before.before.before.before.before.before.before.before.before.args.text.now _ c.decimal.ensures (omega arith))
+joined-requires c κs = (omega (arith, ap value_of c.before.before.before.before.before.before.first.given.1), low_bounded c.before.before.before.before.before.before.before.before.before.args.text.now _ c.decimal.ensures (omega arith))
 
 enum-known-first-2 : tie.Need-enum-known-first-2
 enum-known-first-2 c = search rules
 
 returns-2 : tie.Need-returns-2
-returns-2 c = dotted-more c.before.before.before.before.before.before.before.before.before.before.args.text.now c.before.before.before.before.before.before.before.first.given.0.0 c.before.before.before.before.before.before.before.first.given.0.1.0 c.before.before.before.before.before.before.before.first.given.1 (ap (starts_with dot) (sym (part-tail c.before.before.before.before.before.before.before.first.given.0.1.0 c.before.before.before.before.before.before.before.before.before.before.args.text.now)) ∙ sym c.before.before.before.before.starts.ensures ∙ not-false _ c.before.before.before.if1.false) c.before.decimal.ensures c.joined.ensures
+returns-2 c = dotted_more c.before.before.before.before.before.before.before.before.before.before.args.text.now c.before.before.before.before.before.before.before.first.given.0.0 c.before.before.before.before.before.before.before.first.given.0.1.0 c.before.before.before.before.before.before.before.first.given.1 (ap (starts_with dot) (sym (part_tail c.before.before.before.before.before.before.before.first.given.0.1.0 c.before.before.before.before.before.before.before.before.before.before.args.text.now)) ∙ sym c.before.before.before.before.starts.ensures ∙ not-false _ c.before.before.before.if1.false) c.before.decimal.ensures c.joined.ensures
 
 returns-3 : tie.Need-returns-3
 returns-3 c = ap (dotted c.before.before.before.before.args.text.now) (sym c.before.first2.given.1)

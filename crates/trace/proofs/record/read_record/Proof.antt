@@ -2,9 +2,9 @@ use borrow.Author.Rules.{rules}
 use native.Mathlib.Omega.{arith}
 use lib.ListN.{length}
 use mathlib.Core.Path.{sym, ◌∙◌}
-use Rattle.octets.proofs.Runs.{part-tail}
+use Rattle.octets.proofs.Runs.{part_tail}
 use Rattle.trace.specs.declared.gap.Taken.TheVariants.{Stopped, Letter, Value, Octets}
-use Rattle.trace.proofs.Records.{Step, step_line, step-form, Walked, walked_start, walked-letter, walked-value, walked-octets, walked_stop, walked-full, walked-full-octets, walked_more, walked_end}
+use Rattle.trace.proofs.Records.{Step, step_line, step_form, Walked, walked_start, walked_letter, walked_value, walked_octets, walked_stop, walked_full, walked_full_octets, walked_more, walked_end}
 use Rattle.trace.proofs.record.read_record.Statement.{statement}
 use Rattle.trace.proofs.record.read_record.Tie as tie
 
@@ -21,8 +21,8 @@ letter-step c = record { some = c.before.before.before.before.loop-test.true; si
 value-step : (c : tie.After-known-told invariant-loop decreases-loop) → Step c.before.before.before.before.before.before.loop.t.now c.before.before.before.before.before.before.loop.f.now c.before.before.before.before.part-len.result (Value c.before.value.given.0.0 c.before.value.given.0.1.0)
 value-step c = record { some = c.before.before.before.before.before.loop-test.true; size = c.before.before.before.before.part-len.ensures; got = sym c.before.before.before.next-taken.ensures ∙ c.before.value.given.1 }
 
-octets-step : (c : tie.After-known-told2 invariant-loop decreases-loop) → Step c.before.before.before.before.before.before.loop.t.now c.before.before.before.before.before.before.loop.f.now c.before.before.before.before.part-len.result (Octets c.before.pairs.given.0.0)
-octets-step c = record { some = c.before.before.before.before.before.loop-test.true; size = c.before.before.before.before.part-len.ensures; got = sym c.before.before.before.next-taken.ensures ∙ c.before.pairs.given.1 }
+octets_step : (c : tie.After-known-told2 invariant-loop decreases-loop) → Step c.before.before.before.before.before.before.loop.t.now c.before.before.before.before.before.before.loop.f.now c.before.before.before.before.part-len.result (Octets c.before.pairs.given.0.0)
+octets_step c = record { some = c.before.before.before.before.before.loop-test.true; size = c.before.before.before.before.part-len.ensures; got = sym c.before.before.before.next-taken.ensures ∙ c.before.pairs.given.1 }
 
 stop_step : (c : tie.After-known-told3 invariant-loop decreases-loop) → Step c.before.before.before.before.before.before.loop.t.now c.before.before.before.before.before.before.loop.f.now c.before.before.before.before.part-len.result (Stopped c.before.len.given.0.0)
 stop_step c = record { some = c.before.before.before.before.before.loop-test.true; size = c.before.before.before.before.part-len.ensures; got = sym c.before.before.before.next-taken.ensures ∙ c.before.len.given.1 }
@@ -52,19 +52,19 @@ part-t-end : tie.Need-slice-bounds-t-end invariant-loop decreases-loop
 part-t-end c = search rules
 
 sub-f : tie.Need-overflow-sub-f invariant-loop decreases-loop
-sub-f c = omega (arith, (step-form (letter-step c.before)).1)
+sub-f c = omega (arith, (step_form (letter-step c.before)).1)
 
 part-f-start : tie.Need-slice-bounds-f-start invariant-loop decreases-loop
-part-f-start c = omega (arith, (step-form (letter-step c.before)).1)
+part-f-start c = omega (arith, (step_form (letter-step c.before)).1)
 
 part-f-end : tie.Need-slice-bounds-f-end invariant-loop decreases-loop
 part-f-end c = search rules
 
 loop-less : tie.Need-loop-smaller invariant-loop decreases-loop
-loop-less c = omega (arith, step-form (letter-step c.before.before))
+loop-less c = omega (arith, step_form (letter-step c.before.before))
 
 loop-again : tie.Need-loop-preserved invariant-loop decreases-loop
-loop-again c = walked-letter c.before.before.before.before.before.before.before.loop.invariant (letter-step c.before.before) (part-tail _ c.before.before.before.before.before.before.before.loop.t.now) (part-tail _ c.before.before.before.before.before.before.before.loop.f.now)
+loop-again c = walked_letter c.before.before.before.before.before.before.before.loop.invariant (letter-step c.before.before) (part_tail _ c.before.before.before.before.before.before.before.loop.t.now) (part_tail _ c.before.before.before.before.before.before.before.loop.f.now)
 
 enum-known-value : tie.Need-enum-known-value invariant-loop decreases-loop
 enum-known-value c = search rules
@@ -76,7 +76,7 @@ misfit-requires : tie.Need-misfit-requires invariant-loop decreases-loop
 misfit-requires c κs = search rules
 
 returns : tie.Need-returns invariant-loop decreases-loop
-returns c = c.misfit.ensures ∙ sym (walked-full c.before.before.before.before.before.before.before.before.loop.invariant (value-step c.before.before) c.before.if1.true)
+returns c = c.misfit.ensures ∙ sym (walked_full c.before.before.before.before.before.before.before.before.loop.invariant (value-step c.before.before) c.before.if1.true)
 
 mul-values : tie.Need-overflow-mul-values invariant-loop decreases-loop
 mul-values c = search rules
@@ -100,19 +100,19 @@ part-t-end-2 : tie.Need-slice-bounds-t-end-2 invariant-loop decreases-loop
 part-t-end-2 c = search rules
 
 sub-f-2 : tie.Need-overflow-sub-f-2 invariant-loop decreases-loop
-sub-f-2 c = omega (arith, (step-form (value-step c.before.before)).1)
+sub-f-2 c = omega (arith, (step_form (value-step c.before.before)).1)
 
 part-f-start-2 : tie.Need-slice-bounds-f-start-2 invariant-loop decreases-loop
-part-f-start-2 c = omega (arith, (step-form (value-step c.before.before)).1)
+part-f-start-2 c = omega (arith, (step_form (value-step c.before.before)).1)
 
 part-f-end-2 : tie.Need-slice-bounds-f-end-2 invariant-loop decreases-loop
 part-f-end-2 c = search rules
 
 loop-less-2 : tie.Need-loop-smaller-2 invariant-loop decreases-loop
-loop-less-2 c = omega (arith, step-form (value-step c.before.before.before))
+loop-less-2 c = omega (arith, step_form (value-step c.before.before.before))
 
 loop-again-2 : tie.Need-loop-preserved-2 invariant-loop decreases-loop
-loop-again-2 c = walked-value c.before.before.before.before.before.before.before.before.before.loop.invariant (value-step c.before.before.before) c.before.before.if1.false (part-tail _ c.before.before.before.before.before.before.before.before.before.loop.t.now) (part-tail _ c.before.before.before.before.before.before.before.before.before.loop.f.now)
+loop-again-2 c = walked_value c.before.before.before.before.before.before.before.before.before.loop.invariant (value-step c.before.before.before) c.before.before.if1.false (part_tail _ c.before.before.before.before.before.before.before.before.before.loop.t.now) (part_tail _ c.before.before.before.before.before.before.before.before.before.loop.f.now)
 
 enum-known-pairs : tie.Need-enum-known-pairs invariant-loop decreases-loop
 enum-known-pairs c = search rules
@@ -124,7 +124,7 @@ misfit-requires-2 : tie.Need-misfit-requires-2 invariant-loop decreases-loop
 misfit-requires-2 c κs = search rules
 
 returns-2 : tie.Need-returns-2 invariant-loop decreases-loop
-returns-2 c = c.misfit2.ensures ∙ sym (walked-full-octets c.before.before.before.before.before.before.before.before.loop.invariant (octets-step c.before.before) c.before.if2.true)
+returns-2 c = c.misfit2.ensures ∙ sym (walked_full_octets c.before.before.before.before.before.before.before.before.loop.invariant (octets_step c.before.before) c.before.if2.true)
 
 mul-values-2 : tie.Need-overflow-mul-values-2 invariant-loop decreases-loop
 mul-values-2 c = search rules
@@ -145,34 +145,34 @@ add-count-2 : tie.Need-overflow-add-count-2 invariant-loop decreases-loop
 add-count-2 c = search rules
 
 mul-len : tie.Need-overflow-mul-len invariant-loop decreases-loop
-mul-len c = omega (arith, step_line (octets-step c.before))
+mul-len c = omega (arith, step_line (octets_step c.before))
 
 add-at-3 : tie.Need-overflow-add-at-3 invariant-loop decreases-loop
-add-at-3 c = omega (arith, step_line (octets-step c.before))
+add-at-3 c = omega (arith, step_line (octets_step c.before))
 
 sub-t-3 : tie.Need-overflow-sub-t-3 invariant-loop decreases-loop
-sub-t-3 c = omega (arith, step_line (octets-step c.before))
+sub-t-3 c = omega (arith, step_line (octets_step c.before))
 
 part-t-start-3 : tie.Need-slice-bounds-t-start-3 invariant-loop decreases-loop
-part-t-start-3 c = omega (arith, step_line (octets-step c.before))
+part-t-start-3 c = omega (arith, step_line (octets_step c.before))
 
 part-t-end-3 : tie.Need-slice-bounds-t-end-3 invariant-loop decreases-loop
 part-t-end-3 c = search rules
 
 sub-f-3 : tie.Need-overflow-sub-f-3 invariant-loop decreases-loop
-sub-f-3 c = omega (arith, (step-form (octets-step c.before.before)).1)
+sub-f-3 c = omega (arith, (step_form (octets_step c.before.before)).1)
 
 part-f-start-3 : tie.Need-slice-bounds-f-start-3 invariant-loop decreases-loop
-part-f-start-3 c = omega (arith, (step-form (octets-step c.before.before)).1)
+part-f-start-3 c = omega (arith, (step_form (octets_step c.before.before)).1)
 
 part-f-end-3 : tie.Need-slice-bounds-f-end-3 invariant-loop decreases-loop
 part-f-end-3 c = search rules
 
 loop-less-3 : tie.Need-loop-smaller-3 invariant-loop decreases-loop
-loop-less-3 c = omega (arith, step-form (octets-step c.before.before.before))
+loop-less-3 c = omega (arith, step_form (octets_step c.before.before.before))
 
 loop-again-3 : tie.Need-loop-preserved-3 invariant-loop decreases-loop
-loop-again-3 c = walked-octets c.before.before.before.before.before.before.before.before.before.loop.invariant (octets-step c.before.before.before) c.before.before.if2.false (part-tail _ c.before.before.before.before.before.before.before.before.before.loop.t.now) (part-tail _ c.before.before.before.before.before.before.before.before.before.loop.f.now)
+loop-again-3 c = walked_octets c.before.before.before.before.before.before.before.before.before.loop.invariant (octets_step c.before.before.before) c.before.before.if2.false (part_tail _ c.before.before.before.before.before.before.before.before.before.loop.t.now) (part_tail _ c.before.before.before.before.before.before.before.before.before.loop.f.now)
 
 enum-known-len : tie.Need-enum-known-len invariant-loop decreases-loop
 enum-known-len c = search rules

@@ -1,5 +1,5 @@
 use borrow.Author.Rules.{rules}
-use Rattle.trace.proofs.Written.{low-char, high-char}
+use Rattle.trace.proofs.Written.{low_char, high_char}
 use Rattle.trace.proofs.write.digit_char.Statement.{statement}
 use Rattle.trace.proofs.write.digit_char.Tie as tie
 
@@ -7,13 +7,13 @@ add-result : tie.Need-overflow-add-result
 add-result c = search rules
 
 returns : tie.Need-returns
-returns c = low-char c.before.args.d c.if1.true
+returns c = low_char c.before.args.d c.if1.true
 
 add-result-2 : tie.Need-overflow-add-result-2
 add-result-2 c = search rules
 
 returns-2 : tie.Need-returns-2
-returns-2 c = high-char c.before.args.d c.if1.false
+returns-2 c = high_char c.before.args.d c.if1.false
 
 pub digit-char-spec : {M : Type 1} → statement M
 digit-char-spec = tie.close (tie.spec add-result returns add-result-2 returns-2)

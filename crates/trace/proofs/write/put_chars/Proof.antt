@@ -1,6 +1,6 @@
 use borrow.Author.Rules.{rules}
 use lib.ListN.{length}
-use Rattle.trace.proofs.Writers.{Onward, whole, onward, written-chars, chars-step}
+use Rattle.trace.proofs.Writers.{Onward, whole, onward, written_chars, chars_step}
 use Rattle.trace.proofs.write.put_chars.Statement.{statement}
 use Rattle.trace.proofs.write.put_chars.Tie as tie
 
@@ -32,13 +32,13 @@ loop-less : tie.Need-loop-smaller invariant-loop decreases-loop
 loop-less c = search rules
 
 loop-again : tie.Need-loop-preserved invariant-loop decreases-loop
-loop-again c = onward c.before.before.before.before.before.before.before.loop.invariant c.before.before.before.put-char.ensures (chars-step c.before.before.before.before.before.before.before.loop.t.now c.before.before.before.before.before.before.loop-test.true)
+loop-again c = onward c.before.before.before.before.before.before.before.loop.invariant c.before.before.before.put-char.ensures (chars_step c.before.before.before.before.before.before.before.loop.t.now c.before.before.before.before.before.before.loop-test.true)
 
 same_length : tie.Need-same-length invariant-loop decreases-loop
 same_length c = c.before.loop.invariant.size
 
 returns : tie.Need-returns invariant-loop decreases-loop
-returns c = written-chars c.before.loop.invariant c.loop-test.false
+returns c = written_chars c.before.loop.invariant c.loop-test.false
 
 pub put-chars-spec : {M : Type 1} → statement M
 put-chars-spec =

@@ -2,7 +2,7 @@ use borrow.Author.Rules.{rules}
 use native.Mathlib.Omega.{arith}
 use Prim.Native.Nat.{◌-◌}
 use mathlib.Core.Path.{refl}
-use Rattle.trace.proofs.Written.{Laid, laid_none, laid-room, laid_more, laid-last}
+use Rattle.trace.proofs.Written.{Laid, laid_none, laid_room, laid_more, laid_last}
 use lib.ListN.{length-set}
 use Rattle.trace.proofs.write.put_decimal.Statement.{statement}
 use Rattle.trace.proofs.write.put_decimal.Tie as tie
@@ -26,13 +26,13 @@ array-write-digits : tie.Need-array-write-digits invariant-loop decreases-loop
 array-write-digits c = search rules
 
 sub-i : tie.Need-overflow-sub-i invariant-loop decreases-loop
-sub-i c = laid-room c.before.loop.invariant (omega arith)
+sub-i c = laid_room c.before.loop.invariant (omega arith)
 
 loop-less : tie.Need-loop-smaller invariant-loop decreases-loop
-loop-less c = omega (arith, laid-room c.before.loop.invariant (omega arith))
+loop-less c = omega (arith, laid_room c.before.loop.invariant (omega arith))
 
 loop-again : tie.Need-loop-preserved invariant-loop decreases-loop
-loop-again c = laid_more (c.before.loop.i - 1) c.before.loop.invariant (omega arith) (omega (arith, laid-room c.before.loop.invariant (omega arith)))
+loop-again c = laid_more (c.before.loop.i - 1) c.before.loop.invariant (omega arith) (omega (arith, laid_room c.before.loop.invariant (omega arith)))
 
 cast-digits-2 : tie.Need-overflow-cast-digits-2 invariant-loop decreases-loop
 cast-digits-2 c = search rules
@@ -59,7 +59,7 @@ same_length : tie.Need-same-length invariant-loop decreases-loop
 same_length c = search rules
 
 returns : tie.Need-returns invariant-loop decreases-loop
-returns c = rw (laid-last c.before.before.before.before.before.before.before.loop.invariant (omega arith)) at c.before.before.put-chars.ensures
+returns c = rw (laid_last c.before.before.before.before.before.before.before.loop.invariant (omega arith)) at c.before.before.put-chars.ensures
 
 pub put-decimal-spec : {M : Type 1} → statement M
 put-decimal-spec =

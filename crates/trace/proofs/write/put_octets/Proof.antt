@@ -1,12 +1,12 @@
 use borrow.Author.Rules.{rules}
 use lib.ListN.{length}
-use Rattle.trace.specs.Texts.{octetsText}
-use Rattle.trace.proofs.Writers.{Onward, whole, onward, written-octets, octets-step}
+use Rattle.trace.specs.Texts.{octets_text}
+use Rattle.trace.proofs.Writers.{Onward, whole, onward, written_octets, octets_step}
 use Rattle.trace.proofs.write.put_octets.Statement.{statement}
 use Rattle.trace.proofs.write.put_octets.Tie as tie
 
 abbrev invariant-loop : tie.invariant-loop
-invariant-loop buf₀ at octets place₀ t₀ buf place t = Onward at (octetsText octets) buf₀ place (octetsText t) buf
+invariant-loop buf₀ at octets place₀ t₀ buf place t = Onward at (octets_text octets) buf₀ place (octets_text t) buf
 
 abbrev decreases-loop : tie.decreases-loop
 decreases-loop buf₀ at octets place₀ t₀ buf place t = length t
@@ -33,13 +33,13 @@ loop-less : tie.Need-loop-smaller invariant-loop decreases-loop
 loop-less c = search rules
 
 loop-again : tie.Need-loop-preserved invariant-loop decreases-loop
-loop-again c = onward c.before.before.before.before.before.before.before.loop.invariant c.before.before.before.put-octet.ensures (octets-step c.before.before.before.before.before.before.before.loop.t.now c.before.before.before.before.before.before.loop-test.true)
+loop-again c = onward c.before.before.before.before.before.before.before.loop.invariant c.before.before.before.put-octet.ensures (octets_step c.before.before.before.before.before.before.before.loop.t.now c.before.before.before.before.before.before.loop-test.true)
 
 same_length : tie.Need-same-length invariant-loop decreases-loop
 same_length c = c.before.loop.invariant.size
 
 returns : tie.Need-returns invariant-loop decreases-loop
-returns c = written-octets c.before.loop.t.now c.before.loop.invariant c.loop-test.false
+returns c = written_octets c.before.loop.t.now c.before.loop.invariant c.loop-test.false
 
 pub put-octets-spec : {M : Type 1} → statement M
 put-octets-spec =

@@ -1,5 +1,5 @@
 use borrow.Author.Rules.{rules}
-use Rattle.trace.proofs.Written.{letter-text, gap-text}
+use Rattle.trace.proofs.Written.{letter-text, gap_text}
 use Rattle.trace.proofs.write.put_part.Statement.{statement}
 use Rattle.trace.proofs.write.put_part.Tie as tie
 
@@ -32,7 +32,7 @@ same-length-2 c = search rules
 returns-2 : tie.Need-returns-2
 returns-2 c =
     let a = c.before.before.before.before.before.before.before.before.before.before.before.args in
-    rw (gap-text a.form.now a.values.now a.source.now c.before.before.before.before.before.if1.false) (rw c.before.before.before.kind-of.ensures at c.before.before.put-gap.ensures)
+    rw (gap_text a.form.now a.values.now a.source.now c.before.before.before.before.before.if1.false) (rw c.before.before.before.kind-of.ensures at c.before.before.put-gap.ensures)
 
 pub put-part-spec : {M : Type 1} → statement M
 put-part-spec =

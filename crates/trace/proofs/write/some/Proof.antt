@@ -2,8 +2,8 @@ use borrow.Author.Rules.{rules}
 use native.Mathlib.Omega.{arith}
 use mathlib.Core.Path.{sym, ap, ◌∙◌}
 use lib.ListN.{take}
-use Rattle.octets.proofs.Runs.{part-tail}
-use Rattle.trace.proofs.Written.{some-past}
+use Rattle.octets.proofs.Runs.{part_tail}
+use Rattle.trace.proofs.Written.{some_past}
 use Rattle.trace.proofs.write.some.Statement.{statement}
 use Rattle.trace.proofs.write.some.Tie as tie
 
@@ -11,7 +11,7 @@ slice-aggregate-result : tie.Need-slice-aggregate-result
 slice-aggregate-result c = search rules
 
 returns : tie.Need-returns
-returns c = sym (some-past c.before.before.before.args.place c.before.before.before.args.count c.before.before.before.args.source.now (omega arith))
+returns c = sym (some_past c.before.before.before.args.place c.before.before.before.args.count c.before.before.before.args.source.now (omega arith))
 
 sub-up-to : tie.Need-overflow-sub-up-to
 sub-up-to c = search rules
@@ -26,7 +26,7 @@ up-to-requires : tie.Need-up-to-requires
 up-to-requires c κs = search rules
 
 returns-2 : tie.Need-returns-2
-returns-2 c = c.up_to_lem.ensures ∙ ap (take c.before.before.before.before.args.count) (part-tail c.before.before.before.before.args.place c.before.before.before.before.args.source.now)
+returns-2 c = c.up_to_lem.ensures ∙ ap (take c.before.before.before.before.args.count) (part_tail c.before.before.before.before.args.place c.before.before.before.before.args.source.now)
 
 pub some-spec : {M : Type 1} → statement M
 some-spec =

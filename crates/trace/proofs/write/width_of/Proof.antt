@@ -1,6 +1,6 @@
 use borrow.Author.Rules.{rules}
 use mathlib.Core.Path.{sym, ◌∙◌}
-use Rattle.trace.proofs.Written.{letter-width, octets-width, number-width}
+use Rattle.trace.proofs.Written.{letter-width, octets_width, number_width}
 use Rattle.trace.proofs.write.width_of.Statement.{statement}
 use Rattle.trace.proofs.write.width_of.Tie as tie
 
@@ -14,10 +14,10 @@ kind-of-requires : tie.Need-kind-of-requires
 kind-of-requires c κs = search rules
 
 returns-2 : tie.Need-returns-2
-returns-2 c = octets-width c.before.before.before.before.before.args.form.now c.before.before.if1.false (sym c.before.kind-of.ensures ∙ c.if2.true)
+returns-2 c = octets_width c.before.before.before.before.before.args.form.now c.before.before.if1.false (sym c.before.kind-of.ensures ∙ c.if2.true)
 
 returns-3 : tie.Need-returns-3
-returns-3 c = number-width c.before.before.before.before.before.args.form.now c.before.before.if1.false (λ e. c.if2.false (c.before.kind-of.ensures ∙ e))
+returns-3 c = number_width c.before.before.before.before.before.args.form.now c.before.before.if1.false (λ e. c.if2.false (c.before.kind-of.ensures ∙ e))
 
 pub width-of-spec : {M : Type 1} → statement M
 width-of-spec =

@@ -3,11 +3,11 @@ use Prim.Native.Nat.{ℕ, min}
 use mathlib.Core.Path.{ap, ◌∙◌}
 use native.Mathlib.Omega.{arith}
 use lib.ListN.{length, length-take, length-drop}
-use Rattle.trace.specs.Forms.{headPart}
+use Rattle.trace.specs.Forms.{head_part}
 use Rattle.trace.specs.Written.{line_of}
-use Rattle.trace.proofs.Forms.{part-size}
+use Rattle.trace.proofs.Forms.{part_size_lem}
 use Rattle.trace.proofs.Writers.{Onward, whole, onward}
-use Rattle.trace.proofs.Written.{few-values, written-line, line_step}
+use Rattle.trace.proofs.Written.{few_values, written_line, line_step}
 use Rattle.trace.proofs.write.write_record.Statement.{statement}
 use Rattle.trace.proofs.write.write_record.Tie as tie
 
@@ -33,16 +33,16 @@ put-part-requires : tie.Need-put-part-requires invariant-loop decreases-loop
 put-part-requires c κs = search rules
 
 sub-f : tie.Need-overflow-sub-f invariant-loop decreases-loop
-sub-f c = omega (arith, (part-size c.before.before.before.before.before.before.before.before.loop.f.now (omega arith)).1, c.before.before.before.before.before.before.part-len.ensures)
+sub-f c = omega (arith, (part_size_lem c.before.before.before.before.before.before.before.before.loop.f.now (omega arith)).1, c.before.before.before.before.before.before.part-len.ensures)
 
 part-f-start : tie.Need-slice-bounds-f-start invariant-loop decreases-loop
-part-f-start c = omega (arith, (part-size c.before.before.before.before.before.before.before.before.loop.f.now (omega arith)).1, c.before.before.before.before.before.before.part-len.ensures)
+part-f-start c = omega (arith, (part_size_lem c.before.before.before.before.before.before.before.before.loop.f.now (omega arith)).1, c.before.before.before.before.before.before.part-len.ensures)
 
 part-f-end : tie.Need-slice-bounds-f-end invariant-loop decreases-loop
 part-f-end c = search rules
 
 mul-v : tie.Need-overflow-mul-v invariant-loop decreases-loop
-mul-v c = omega (arith, c.before.before.before.before.before.at_most.ensures, c.before.before.before.before.before.before.width_of_lem.ensures, few-values (headPart c.before.before.before.before.before.before.before.before.before.loop.f.now))
+mul-v c = omega (arith, c.before.before.before.before.before.at_most.ensures, c.before.before.before.before.before.before.width_of_lem.ensures, few_values (head_part c.before.before.before.before.before.before.before.before.before.loop.f.now))
 
 sub-v : tie.Need-overflow-sub-v invariant-loop decreases-loop
 sub-v c = search rules
@@ -54,7 +54,7 @@ part-v-end : tie.Need-slice-bounds-v-end invariant-loop decreases-loop
 part-v-end c = search rules
 
 loop-less : tie.Need-loop-smaller invariant-loop decreases-loop
-loop-less c = simp (length-take, length-drop) (omega (arith, part-size c.before.before.before.before.before.before.before.before.before.before.loop.f.now (omega arith), c.before.before.before.before.before.before.before.before.part-len.ensures))
+loop-less c = simp (length-take, length-drop) (omega (arith, part_size_lem c.before.before.before.before.before.before.before.before.before.before.loop.f.now (omega arith), c.before.before.before.before.before.before.before.before.part-len.ensures))
 
 loop-again : tie.Need-loop-preserved invariant-loop decreases-loop
 loop-again c =
@@ -67,7 +67,7 @@ same_length : tie.Need-same-length invariant-loop decreases-loop
 same_length c = c.before.loop.invariant.size
 
 returns : tie.Need-returns invariant-loop decreases-loop
-returns c = written-line c.before.loop.f.now c.before.loop.v.now c.before.before.before.before.before.before.args.source.now c.before.loop.invariant (omega arith)
+returns c = written_line c.before.loop.f.now c.before.loop.v.now c.before.before.before.before.before.before.args.source.now c.before.loop.invariant (omega arith)
 
 pub write-record-spec : {M : Type 1} → statement M
 write-record-spec =

@@ -1,6 +1,6 @@
-use Rattle.wire.proofs.Walks.{from, moved, lies, from_past, first-here, first-later, first-none}
+use Rattle.wire.proofs.Walks.{from, moved, lies, from_past, first_here, first_later, first_none}
 use Rattle.wire.specs.declared.options.Item.TheVariants.{Pad, End, Whole}
-use Rattle.wire.specs.Options.{firstWith, optionData}
+use Rattle.wire.specs.Options.{first_with, option_data}
 use lib.ListN.{length, take, drop}
 use mathlib.Core.Path.{◌≡◌, refl, sym, ap, ◌∙◌}
 use Prim.Native.Nat.{◌+◌, ◌-◌, ◌≤◌}
@@ -10,7 +10,7 @@ use Rattle.wire.proofs.options.find.Statement.{statement}
 use Rattle.wire.proofs.options.find.Tie as tie
 
 abbrev invariant-loop : tie.invariant-loop
-invariant-loop reply code at₀ at = optionData code reply ≡ firstWith code (from reply at)
+invariant-loop reply code at₀ at = option_data code reply ≡ first_with code (from reply at)
 
 abbrev decreases-loop : tie.decreases-loop
 decreases-loop reply code at₀ at = length reply - at
@@ -39,7 +39,7 @@ returns c =
     let n = c.before.before.kind.given.0.1.0 in
     let it = Whole k n in
     record {
-      holds = sym (c.before.before.before.before.before.before.loop.invariant ∙ ap (firstWith c.before.before.before.before.before.before.before.before.args.code) (moved s at c.before.before.before.before.read-item.result it c.before.before.before.before.read-item.ensures c.before.before.kind.given.1) ∙ first-here c.before.before.before.before.before.before.before.before.args.code k (take n (drop (at + 2) s)) (from s (at + 2 + n)) c.if1.true);
+      holds = sym (c.before.before.before.before.before.before.loop.invariant ∙ ap (first_with c.before.before.before.before.before.before.before.before.args.code) (moved s at c.before.before.before.before.read-item.result it c.before.before.before.before.read-item.ensures c.before.before.kind.given.1) ∙ first_here c.before.before.before.before.before.before.before.before.args.code k (take n (drop (at + 2) s)) (from s (at + 2 + n)) c.if1.true);
       inside = lies s at c.before.before.before.before.read-item.result it c.before.before.before.before.read-item.ensures c.before.before.kind.given.1 c.before.before.before.before.before.loop-test.true;
     }
 
@@ -58,7 +58,7 @@ loop-again c =
     let at = c.before.before.before.before.before.before.loop.at in
     let k = c.before.before.kind.given.0.0 in
     let n = c.before.before.kind.given.0.1.0 in
-    c.before.before.before.before.before.before.loop.invariant ∙ ap (firstWith c.before.before.before.before.before.before.before.before.args.code) (moved s at c.before.before.before.before.read-item.result (Whole k n) c.before.before.before.before.read-item.ensures c.before.before.kind.given.1) ∙ first-later c.before.before.before.before.before.before.before.before.args.code k (take n (drop (at + 2) s)) (from s (at + 2 + n)) c.if1.false
+    c.before.before.before.before.before.before.loop.invariant ∙ ap (first_with c.before.before.before.before.before.before.before.before.args.code) (moved s at c.before.before.before.before.read-item.result (Whole k n) c.before.before.before.before.read-item.ensures c.before.before.kind.given.1) ∙ first_later c.before.before.before.before.before.before.before.before.args.code k (take n (drop (at + 2) s)) (from s (at + 2 + n)) c.if1.false
 
 enum_told : tie.Need-enum-told invariant-loop decreases-loop
 enum_told c = search rules
@@ -70,7 +70,7 @@ loop-less-2 : tie.Need-loop-smaller-2 invariant-loop decreases-loop
 loop-less-2 c = search rules
 
 loop-again-2 : tie.Need-loop-preserved-2 invariant-loop decreases-loop
-loop-again-2 c = c.before.before.before.before.loop.invariant ∙ ap (firstWith c.before.before.before.before.before.before.args.code) (moved c.before.before.before.before.before.before.args.reply.now c.before.before.before.before.loop.at c.before.before.read-item.result Pad c.before.before.read-item.ensures c.enum_told.given.1)
+loop-again-2 c = c.before.before.before.before.loop.invariant ∙ ap (first_with c.before.before.before.before.before.before.args.code) (moved c.before.before.before.before.before.before.args.reply.now c.before.before.before.before.loop.at c.before.before.read-item.result Pad c.before.before.read-item.ensures c.enum_told.given.1)
 
 enum-told-2 : tie.Need-enum-told-2 invariant-loop decreases-loop
 enum-told-2 c = search rules
@@ -78,14 +78,14 @@ enum-told-2 c = search rules
 returns-2 : tie.Need-returns-2 invariant-loop decreases-loop
 returns-2 c =
     record {
-      holds = sym (c.before.before.before.before.loop.invariant ∙ ap (firstWith c.before.before.before.before.before.before.args.code) (moved c.before.before.before.before.before.before.args.reply.now c.before.before.before.before.loop.at c.before.before.read-item.result End c.before.before.read-item.ensures c.enum-told2.given.1) ∙ first-none c.before.before.before.before.before.before.args.code);
+      holds = sym (c.before.before.before.before.loop.invariant ∙ ap (first_with c.before.before.before.before.before.before.args.code) (moved c.before.before.before.before.before.before.args.reply.now c.before.before.before.before.loop.at c.before.before.read-item.result End c.before.before.read-item.ensures c.enum-told2.given.1) ∙ first_none c.before.before.before.before.before.before.args.code);
       inside = tt;
     }
 
 returns-3 : tie.Need-returns-3 invariant-loop decreases-loop
 returns-3 c =
     record {
-      holds = sym (c.before.loop.invariant ∙ ap (firstWith c.before.before.before.args.code) (from_past c.before.before.before.args.reply.now c.before.loop.at c.loop-test.false) ∙ first-none c.before.before.before.args.code);
+      holds = sym (c.before.loop.invariant ∙ ap (first_with c.before.before.before.args.code) (from_past c.before.before.before.args.reply.now c.before.loop.at c.loop-test.false) ∙ first_none c.before.before.before.args.code);
       inside = tt;
     }
 

@@ -1,5 +1,5 @@
-use Rattle.wire.proofs.Lists.{Gathered, gathered_none, gathered-more, gathered-all}
-use Rattle.octets.proofs.Runs.{part-tail}
+use Rattle.wire.proofs.Lists.{Gathered, gathered_none, gathered_more, gathered_all}
+use Rattle.octets.proofs.Runs.{part_tail}
 use lib.ListN.{length}
 use borrow.Author.Rules.{rules}
 use Rattle.wire.proofs.reply.addresses_in.Statement.{statement}
@@ -47,10 +47,10 @@ loop-less c = search rules
 loop-again : tie.Need-loop-preserved invariant-loop decreases-loop
 loop-again c =
     let t = c.before.before.before.before.before.before.before.before.loop.t.now in
-    gathered-more c.before.before.before.before.before.before.before.before.before.before.args.body.now t _ c.before.before.before.before.before.before.before.before.loop.found c.before.with-address.result c.before.before.join4.result c.before.before.before.before.before.before.before.before.loop.invariant c.before.before.before.before.before.before.before.loop-test.true (part-tail 4 t) c.before.before.join4.ensures c.before.with-address.ensures
+    gathered_more c.before.before.before.before.before.before.before.before.before.before.args.body.now t _ c.before.before.before.before.before.before.before.before.loop.found c.before.with-address.result c.before.before.join4.result c.before.before.before.before.before.before.before.before.loop.invariant c.before.before.before.before.before.before.before.loop-test.true (part_tail 4 t) c.before.before.join4.ensures c.before.with-address.ensures
 
 returns : tie.Need-returns invariant-loop decreases-loop
-returns c = gathered-all c.before.before.before.args.body.now c.before.loop.t.now c.before.loop.found c.before.loop.invariant c.loop-test.false
+returns c = gathered_all c.before.before.before.args.body.now c.before.loop.t.now c.before.loop.found c.before.loop.invariant c.loop-test.false
 
 pub addresses-in-spec : {M : Type 1} → statement M
 addresses-in-spec =

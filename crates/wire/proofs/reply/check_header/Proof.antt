@@ -1,5 +1,5 @@
-use Rattle.wire.specs.Readings.{headerCheck}
-use Rattle.choice.proofs.Choices.{if-true, if-false}
+use Rattle.wire.specs.Readings.{header_check}
+use Rattle.choice.proofs.Choices.{if_true, if_false}
 use native.Mathlib.Omega.{arith}
 use lib.ListN.{length-take}
 use borrow.Author.Tests.{lt-ltb, le-ltb, not-true, not-false}
@@ -9,8 +9,8 @@ use Rattle.wire.proofs.reply.check_header.Statement.{statement}
 use Rattle.wire.proofs.reply.check_header.Tie as tie
 
 returns : tie.Need-returns
-unfolding headerCheck
-returns c = if-true _ (lt-ltb _ _ c.if1.true) refl
+unfolding header_check
+returns c = if_true _ (lt-ltb _ _ c.if1.true) refl
 
 slice-aggregate-same : tie.Need-slice-aggregate-same
 slice-aggregate-same c = simp length-take (omega arith)
@@ -22,8 +22,8 @@ same-requires : tie.Need-same-requires
 same-requires c κs = search rules
 
 returns-2 : tie.Need-returns-2
-unfolding headerCheck
-returns-2 c = if-false _ (le-ltb _ _ c.before.before.before.before.if1.false) (if-false _ (sym c.before.same.ensures ∙ not-true _ c.if2.true) refl)
+unfolding header_check
+returns-2 c = if_false _ (le-ltb _ _ c.before.before.before.before.if1.false) (if_false _ (sym c.before.same.ensures ∙ not-true _ c.if2.true) refl)
 
 sub_same : tie.Need-overflow-sub-same
 sub_same c = search rules
@@ -41,12 +41,12 @@ same-requires-2 : tie.Need-same-requires-2
 same-requires-2 c κs = search rules
 
 returns-3 : tie.Need-returns-3
-unfolding headerCheck
-returns-3 c = if-false _ (le-ltb _ _ c.before.before.before.before.before.before.before.before.if1.false) (if-true _ (sym c.before.before.before.before.before.same.ensures ∙ not-false _ c.before.before.before.before.if2.false) (if-false _ (sym c.before.same2.ensures ∙ not-true _ c.if3.true) refl))
+unfolding header_check
+returns-3 c = if_false _ (le-ltb _ _ c.before.before.before.before.before.before.before.before.if1.false) (if_true _ (sym c.before.before.before.before.before.same.ensures ∙ not-false _ c.before.before.before.before.if2.false) (if_false _ (sym c.before.same2.ensures ∙ not-true _ c.if3.true) refl))
 
 returns-4 : tie.Need-returns-4
-unfolding headerCheck
-returns-4 c = if-false _ (le-ltb _ _ c.before.before.before.before.before.before.before.before.if1.false) (if-true _ (sym c.before.before.before.before.before.same.ensures ∙ not-false _ c.before.before.before.before.if2.false) (if-true _ (sym c.before.same2.ensures ∙ not-false _ c.if3.false) refl))
+unfolding header_check
+returns-4 c = if_false _ (le-ltb _ _ c.before.before.before.before.before.before.before.before.if1.false) (if_true _ (sym c.before.before.before.before.before.same.ensures ∙ not-false _ c.before.before.before.before.if2.false) (if_true _ (sym c.before.same2.ensures ∙ not-false _ c.if3.false) refl))
 
 pub check-header-spec : {M : Type 1} → statement M
 check-header-spec =

@@ -1,4 +1,4 @@
-use Rattle.octets.proofs.Runs.{same-lengths}
+use Rattle.octets.proofs.Runs.{same_lengths}
 use native.Mathlib.Omega.{arith}
 use lib.ListN.{length, take, drop, length-take, length-drop}
 use mathlib.Core.Path.{◌≡◌, sym}
@@ -13,7 +13,7 @@ returns : tie.Need-returns
 returns c =
     let s = c.before.before.args.reply.now in
     let short : length (take 6 (drop 28 s)) ≡ length c.before.before.args.t2 → ⊥ = λ e. omega (arith, size c.before.before, simp (length-take, length-drop) at e) in
-    sym (same-lengths (take 6 (drop 28 s)) c.before.before.args.t2 short)
+    sym (same_lengths (take 6 (drop 28 s)) c.before.before.args.t2 short)
 
 sub_same : tie.Need-overflow-sub-same
 sub_same c = search rules

@@ -1,5 +1,5 @@
 use Rattle.wire.proofs.Walks.{found, found_none}
-use Rattle.wire.specs.Readings.{addressesOf}
+use Rattle.wire.specs.Readings.{addresses_of}
 use mathlib.Core.Path.{ap, ◌∙◌}
 use native.Mathlib.Omega.{arith}
 use borrow.Author.Rules.{rules}
@@ -31,10 +31,10 @@ enum_told : tie.Need-enum-told
 enum_told c = search rules
 
 returns : tie.Need-returns
-returns c = c.addresses-in.ensures ∙ ap addressesOf (found c.before.before.before.start.given.0.0 c.before.before.before.start.given.0.1.0 c.before.before.before.before.before.find.ensures c.before.before.before.start.given.1).0
+returns c = c.addresses-in.ensures ∙ ap addresses_of (found c.before.before.before.start.given.0.0 c.before.before.before.start.given.0.1.0 c.before.before.before.before.before.find.ensures c.before.before.before.start.given.1).0
 
 returns-2 : tie.Need-returns-2
-returns-2 c = ap addressesOf (found_none c.before.before.find.ensures c.enum_told.given.1)
+returns-2 c = ap addresses_of (found_none c.before.before.find.ensures c.enum_told.given.1)
 
 pub option-addresses-spec : {M : Type 1} → statement M
 option-addresses-spec =

@@ -1,4 +1,4 @@
-use Rattle.wire.proofs.Walks.{found-length, found_none}
+use Rattle.wire.proofs.Walks.{found_length, found_none}
 use Rattle.wire.specs.Readings.{length_of}
 use mathlib.Core.Path.{sym, ap}
 use borrow.Author.Rules.{rules}
@@ -15,7 +15,7 @@ enum_told : tie.Need-enum-told
 enum_told c = search rules
 
 returns : tie.Need-returns
-returns c = sym (found-length c.before.len.given.0.0 c.before.len.given.0.1.0 c.before.before.before.find.ensures c.before.len.given.1)
+returns c = sym (found_length c.before.len.given.0.0 c.before.len.given.0.1.0 c.before.before.before.find.ensures c.before.len.given.1)
 
 returns-2 : tie.Need-returns-2
 returns-2 c = ap length_of (found_none c.before.before.find.ensures c.enum_told.given.1)

@@ -1,5 +1,5 @@
 use Rattle.wire.proofs.Walks.{found, found_none}
-use Rattle.wire.specs.Readings.{octetOf}
+use Rattle.wire.specs.Readings.{octet_of}
 use mathlib.Core.Path.{ap, ◌∙◌}
 use native.Mathlib.Omega.{arith}
 use borrow.Author.Rules.{rules}
@@ -31,10 +31,10 @@ enum_told : tie.Need-enum-told
 enum_told c = search rules
 
 returns : tie.Need-returns
-returns c = c.octet-in.ensures ∙ ap (octetOf c.before.before.before.before.before.before.before.args.index) (found c.before.before.before.start.given.0.0 c.before.before.before.start.given.0.1.0 c.before.before.before.before.before.find.ensures c.before.before.before.start.given.1).0
+returns c = c.octet-in.ensures ∙ ap (octet_of c.before.before.before.before.before.before.before.args.index) (found c.before.before.before.start.given.0.0 c.before.before.before.start.given.0.1.0 c.before.before.before.before.before.find.ensures c.before.before.before.start.given.1).0
 
 returns-2 : tie.Need-returns-2
-returns-2 c = ap (octetOf c.before.before.before.before.args.index) (found_none c.before.before.find.ensures c.enum_told.given.1)
+returns-2 c = ap (octet_of c.before.before.before.before.args.index) (found_none c.before.before.find.ensures c.enum_told.given.1)
 
 pub option-octet-spec : {M : Type 1} → statement M
 option-octet-spec =

@@ -1,5 +1,5 @@
 use borrow.Author.Tests.{eq-eqb, ne_eqb}
-use Rattle.choice.proofs.Choices.{if-true, if-false}
+use Rattle.choice.proofs.Choices.{if_true, if_false}
 use mathlib.Core.Path.{refl}
 use borrow.Author.Rules.{rules}
 use Rattle.wire.proofs.reply.type_in.Statement.{statement}
@@ -12,10 +12,10 @@ some-octet-requires : tie.Need-some-octet-requires
 some-octet-requires c κs = search rules
 
 returns : tie.Need-returns
-returns c = if-true _ (eq-eqb _ _ c.before.before.if1.true) c.some-octet.ensures
+returns c = if_true _ (eq-eqb _ _ c.before.before.if1.true) c.some-octet.ensures
 
 returns-2 : tie.Need-returns-2
-returns-2 c = if-false _ (ne_eqb _ _ c.if1.false) refl
+returns-2 c = if_false _ (ne_eqb _ _ c.if1.false) refl
 
 pub type-in-spec : {M : Type 1} → statement M
 type-in-spec =

@@ -1,5 +1,5 @@
-use Rattle.wire.specs.Readings.{ifUnicast}
-use Rattle.choice.proofs.Choices.{if-true, if-false}
+use Rattle.wire.specs.Readings.{if_unicast}
+use Rattle.choice.proofs.Choices.{if_true, if_false}
 use mathlib.Core.Path.{refl, sym, ap, ◌∙◌}
 use borrow.Author.Rules.{rules}
 use Rattle.wire.proofs.reply.unicast_only.Statement.{statement}
@@ -12,13 +12,13 @@ x-is-unicast-requires : tie.Need-x-is-unicast-requires
 x-is-unicast-requires c κs = search rules
 
 returns : tie.Need-returns
-returns c = if-true _ (sym c.before.x-is-unicast.ensures ∙ c.if1.true) refl ∙ ap ifUnicast (sym c.before.before.before.address.given.1)
+returns c = if_true _ (sym c.before.x-is-unicast.ensures ∙ c.if1.true) refl ∙ ap if_unicast (sym c.before.before.before.address.given.1)
 
 enum_told : tie.Need-enum-told
 enum_told c = search rules
 
 returns-2 : tie.Need-returns-2
-returns-2 c = if-false _ (sym c.before.x-is-unicast.ensures ∙ c.if1.false) refl ∙ ap ifUnicast (sym c.before.before.before.address.given.1)
+returns-2 c = if_false _ (sym c.before.x-is-unicast.ensures ∙ c.if1.false) refl ∙ ap if_unicast (sym c.before.before.before.address.given.1)
 
 returns-3 : tie.Need-returns-3
 returns-3 c = search rules

@@ -1,6 +1,6 @@
-use Rattle.wire.proofs.Lists.{three-full, three-more, ones-kept, ones-left}
+use Rattle.wire.proofs.Lists.{three_full, three_more, ones_kept, ones_left}
 use Rattle.wire.specs.declared.reply.Addresses.{Addresses}
-use Rattle.wire.specs.Readings.{firstThree, unicastOnes}
+use Rattle.wire.specs.Readings.{first_three, unicast_ones}
 use lib.ListN.{set}
 use borrow.Author.Tests.{not-true, not-false}
 use Prim.Native.Nat.{ℕ, ◌+◌, ◌≤◌, ◌<◌}
@@ -11,14 +11,14 @@ use Rattle.wire.proofs.reply.with_address.Statement.{statement}
 use Rattle.wire.proofs.reply.with_address.Tie as tie
 
 returns : tie.Need-returns
-returns c = λ done e. e ∙ three-full done (unicastOnes (c.before.args.address ∷ [])) (subst (λ (f : Addresses). 3 ≤ f.count) e c.if1.true)
+returns c = λ done e. e ∙ three_full done (unicast_ones (c.before.args.address ∷ [])) (subst (λ (f : Addresses). 3 ≤ f.count) e c.if1.true)
 
 x-is-unicast-requires : tie.Need-x-is-unicast-requires
 x-is-unicast-requires c κs = search rules
 
 returns-2 : tie.Need-returns-2
-unfolding unicastOnes
-returns-2 c = λ done e. e ∙ ap firstThree (sym (append-nil done) ∙ ap (λ (l : List ℕ). done ++ l) (sym (ones-left c.before.before.before.args.address [] (sym c.before.x-is-unicast.ensures ∙ not-true _ c.if2.true))))
+unfolding unicast_ones
+returns-2 c = λ done e. e ∙ ap first_three (sym (append-nil done) ∙ ap (λ (l : List ℕ). done ++ l) (sym (ones_left c.before.before.before.args.address [] (sym c.before.x-is-unicast.ensures ∙ not-true _ c.if2.true))))
 
 mul-list : tie.Need-overflow-mul-list
 mul-list c = search rules
@@ -30,13 +30,13 @@ add-t7 : tie.Need-overflow-add-t7
 add-t7 c = search rules
 
 returns-3 : tie.Need-returns-3
-unfolding unicastOnes
+unfolding unicast_ones
 returns-3 c =
     λ done e.
     let a = c.before.before.before.before.args.address in
-    let more : ◌≡◌ {A = Addresses} (record { list = set c.before.before.before.before.args.found.list c.before.before.before.before.args.found.count a; count = c.before.before.before.before.args.found.count + 1 }) (firstThree (done ++ (a ∷ []))) =
-    subst (λ (f : Addresses). ◌≡◌ {A = Addresses} (record { list = set f.list f.count a; count = f.count + 1 }) (firstThree (done ++ (a ∷ [])))) (sym e) (three-more done a (subst (λ (f : Addresses). f.count < 3) e c.before.before.before.if1.false)) in
-    more ∙ ap (λ (l : List ℕ). firstThree (done ++ l)) (sym (ones-kept a [] (sym c.before.before.x-is-unicast.ensures ∙ not-false _ c.before.if2.false)))
+    let more : ◌≡◌ {A = Addresses} (record { list = set c.before.before.before.before.args.found.list c.before.before.before.before.args.found.count a; count = c.before.before.before.before.args.found.count + 1 }) (first_three (done ++ (a ∷ []))) =
+    subst (λ (f : Addresses). ◌≡◌ {A = Addresses} (record { list = set f.list f.count a; count = f.count + 1 }) (first_three (done ++ (a ∷ [])))) (sym e) (three_more done a (subst (λ (f : Addresses). f.count < 3) e c.before.before.before.if1.false)) in
+    more ∙ ap (λ (l : List ℕ). first_three (done ++ l)) (sym (ones_kept a [] (sym c.before.before.x-is-unicast.ensures ∙ not-false _ c.before.if2.false)))
 
 pub with-address-spec : {M : Type 1} → statement M
 with-address-spec =

@@ -2,8 +2,8 @@ use borrow.Author.Rules.{rules}
 use native.Mathlib.Omega.{arith}
 use mathlib.Core.Path.{sym, ◌∙◌}
 use lib.ListN.{length, length-take, length-drop}
-use Rattle.octets.proofs.Runs.{part-tail}
-use Rattle.wire.proofs.Stores.{place_none, place_here, place-later, place-cut}
+use Rattle.octets.proofs.Runs.{part_tail}
+use Rattle.wire.proofs.Stores.{place_none, place_here, place_later, place_cut}
 use Prim.Native.Nat.{ℕ, ◌<◌}
 use borrow.Fn.Kinds.{In}
 use borrow.Fn.PlainCycle.{Measures, is, falls, and}
@@ -59,7 +59,7 @@ find-in-add-n t c = omega (arith, c.before.before.shared-slice-known2.given 1)
 find-in-returns-3 :
     (t : ℕ) →
     find-in-lts.Need-returns-3 (find-in-below t, find-in.Post) (find-in-at t) find-in.Post
-find-in-returns-3 t c = sym (place-cut c.before.before.before.before.before.before.args.kind c.before.before.before.before.before.before.args.base c.before.before.before.before.before.before.args.s.now (omega arith) c.before.if2.false c.if3.true)
+find-in-returns-3 t c = sym (place_cut c.before.before.before.before.before.before.args.kind c.before.before.before.before.before.before.args.base c.before.before.before.before.before.before.args.s.now (omega arith) c.before.if2.false c.if3.true)
 
 find-in-sub-find-in :
     (t : ℕ) →
@@ -92,7 +92,7 @@ find-in-find-in-requires t c κs = simp (length-take, length-drop) (omega arith)
 find-in-returns-4 :
     (t : ℕ) →
     find-in-lts.Need-returns-4 (find-in-below t, find-in.Post) (find-in-at t) find-in.Post
-find-in-returns-4 t c = c.find-in.ensures ∙ rw part-tail (sym (place-later c.before.before.before.before.before.before.before.before.args.kind c.before.before.before.before.before.before.before.before.args.base c.before.before.before.before.before.before.before.before.args.s.now (omega arith) c.before.before.before.if2.false))
+find-in-returns-4 t c = c.find-in.ensures ∙ rw part_tail (sym (place_later c.before.before.before.before.before.before.before.before.args.kind c.before.before.before.before.before.before.before.before.args.base c.before.before.before.before.before.before.before.before.args.s.now (omega arith) c.before.before.before.if2.false))
 
 pub +find-in-spec : {M : Type 1} → statement M
 +find-in-spec =

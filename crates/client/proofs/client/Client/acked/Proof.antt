@@ -1,4 +1,4 @@
-use Rattle.client.proofs.Settling.{ack-same, ack-other}
+use Rattle.client.proofs.Settling.{ack_same, ack_other}
 use borrow.Author.Rules.{rules}
 use Rattle.client.proofs.client.Client.acked.Statement.{statement}
 use Rattle.client.proofs.client.Client.acked.Tie as tie
@@ -16,13 +16,13 @@ holds-requires : tie.Need-holds-requires
 holds-requires c κs = search rules
 
 returns : tie.Need-returns
-returns c = ack-same _ _ _ _ _ c.before.before.bound.ensures c.before.before.before.before.server.ensures c.before.before.before.of-ack.ensures c.before.holds.ensures c.if1.true
+returns c = ack_same _ _ _ _ _ c.before.before.bound.ensures c.before.before.before.before.server.ensures c.before.before.before.of-ack.ensures c.before.holds.ensures c.if1.true
 
 entered-requires : tie.Need-entered-requires
 entered-requires c κs = search rules
 
 returns-2 : tie.Need-returns-2
-returns-2 c = ack-other _ _ _ _ _ c.before.before.before.bound.ensures c.before.before.before.before.before.server.ensures c.before.before.before.before.of-ack.ensures c.before.before.holds.ensures c.before.if1.false c.entered.ensures
+returns-2 c = ack_other _ _ _ _ _ c.before.before.before.bound.ensures c.before.before.before.before.before.server.ensures c.before.before.before.before.of-ack.ensures c.before.before.holds.ensures c.before.if1.false c.entered.ensures
 
 pub acked-spec : {M : Type 1} → statement M
 acked-spec =

@@ -1,4 +1,4 @@
-use Rattle.client.proofs.Changes.{change-silent, change-sends}
+use Rattle.client.proofs.Changes.{change_silent, change_sends}
 use borrow.Author.Rules.{rules}
 use Rattle.client.proofs.client.Client.change.Statement.{statement}
 use Rattle.client.proofs.client.Client.change.Tie as tie
@@ -25,13 +25,13 @@ send-requires : tie.Need-send-requires
 send-requires c κs = search rules
 
 returns : tie.Need-returns
-returns c = change-silent c.before.before.before.before.before.before.before.before.before.args.self c.before.before.before.before.before.before.before.before.before.args.rand c.before.before.before.before.before.before.before.before.before.args.moment _ c.before.before.before.before.before.before.waits.ensures c.before.before.before.before.before.decide.ensures c.before.before.enum_told.given.1 c.before.silent.ensures c.unmoved.ensures
+returns c = change_silent c.before.before.before.before.before.before.before.before.before.args.self c.before.before.before.before.before.before.before.before.before.args.rand c.before.before.before.before.before.before.before.before.before.args.moment _ c.before.before.before.before.before.before.waits.ensures c.before.before.before.before.before.decide.ensures c.before.before.enum_told.given.1 c.before.silent.ensures c.unmoved.ensures
 
 same_length : tie.Need-same-length
 same_length c = search rules
 
 returns-2 : tie.Need-returns-2
-returns-2 c = change-sends c.before.before.before.before.before.before.before.before.before.before.before.before.args.self c.before.before.before.before.before.before.before.before.before.before.before.before.args.rand c.before.before.before.before.before.before.before.before.before.before.before.before.args.moment _ c.before.before.before.before.before.before.before.before.before.waits.ensures c.before.before.before.before.before.before.before.before.decide.ensures c.before.before.before.before.before.due.given.1 c.before.before.send.ensures
+returns-2 c = change_sends c.before.before.before.before.before.before.before.before.before.before.before.before.args.self c.before.before.before.before.before.before.before.before.before.before.before.before.args.rand c.before.before.before.before.before.before.before.before.before.before.before.before.args.moment _ c.before.before.before.before.before.before.before.before.before.waits.ensures c.before.before.before.before.before.before.before.before.decide.ensures c.before.before.before.before.before.due.given.1 c.before.before.send.ensures
 
 pub change-spec : {M : Type 1} → statement M
 change-spec =

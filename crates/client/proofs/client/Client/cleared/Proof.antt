@@ -1,5 +1,5 @@
 use mathlib.Core.Path.{sym, ◌∙◌}
-use Rattle.choice.proofs.Choices.{if-true, if-false}
+use Rattle.choice.proofs.Choices.{if_true, if_false}
 use Rattle.client.specs.Resets.{cleared}
 use borrow.Author.Rules.{rules}
 use Rattle.client.proofs.client.Client.cleared.Statement.{statement}
@@ -13,14 +13,14 @@ dropped-requires c κs = search rules
 
 returns : tie.Need-returns
 unfolding cleared
-returns c = if-true _ (sym c.before.before.has-lease.ensures ∙ c.before.if1.true) c.dropped.ensures
+returns c = if_true _ (sym c.before.before.has-lease.ensures ∙ c.before.if1.true) c.dropped.ensures
 
 restarted-requires : tie.Need-restarted-requires
 restarted-requires c κs = search rules
 
 returns-2 : tie.Need-returns-2
 unfolding cleared
-returns-2 c = if-false _ (sym c.before.before.has-lease.ensures ∙ c.before.if1.false) c.restarted.ensures
+returns-2 c = if_false _ (sym c.before.before.has-lease.ensures ∙ c.before.if1.false) c.restarted.ensures
 
 pub cleared-spec : {M : Type 1} → statement M
 cleared-spec =

@@ -1,7 +1,7 @@
 use mathlib.Core.Path.{ap}
 use Rattle.machine.specs.declared.state.ClientState.TheVariants.{Init}
 use Rattle.lease.specs.declared.lease.DhcpLease.{DhcpLease}
-use Rattle.client.specs.Clients.{withLease, inState}
+use Rattle.client.specs.Clients.{with_lease, in_state}
 use Rattle.client.proofs.Settling.{settled}
 use borrow.Author.Rules.{rules}
 use Rattle.client.proofs.client.Client.dropped.Statement.{statement}
@@ -20,7 +20,7 @@ zero-requires : tie.Need-zero-requires
 zero-requires c κs = search rules
 
 returns : tie.Need-returns
-returns c = settled _ c.before.before.dhcpv4-apply.ensures c.before.before.before.before.nothing.ensures c.before.before.before.installed.ensures (ap (λ (l : DhcpLease). withLease c.before.before.before.before.before.args.self (inState c.before.before.before.before.before.args.self.session Init) l) c.zero.ensures)
+returns c = settled _ c.before.before.dhcpv4-apply.ensures c.before.before.before.before.nothing.ensures c.before.before.before.installed.ensures (ap (λ (l : DhcpLease). with_lease c.before.before.before.before.before.args.self (in_state c.before.before.before.before.before.args.self.session Init) l) c.zero.ensures)
 
 pub dropped-spec : {M : Type 1} → statement M
 dropped-spec =

@@ -1,4 +1,4 @@
-use Rattle.client.proofs.Changes.{left-dropped}
+use Rattle.client.proofs.Changes.{left_dropped}
 use borrow.Author.Rules.{rules}
 use Rattle.client.proofs.client.Client.dropping.Statement.{statement}
 use Rattle.client.proofs.client.Client.dropping.Tie as tie
@@ -16,7 +16,7 @@ zero-requires : tie.Need-zero-requires
 zero-requires c κs = search rules
 
 returns : tie.Need-returns
-returns c = left-dropped c.before.before.before.before.before.before.before.args.self c.before.before.before.before.before.before.before.args.tables c.before.before.before.before.before.before.before.args.change c.before.before.before.before.dhcpv4-apply.ensures c.before.before.before.before.before.before.nothing.ensures c.before.before.before.before.before.installed.ensures c.zero.ensures
+returns c = left_dropped c.before.before.before.before.before.before.before.args.self c.before.before.before.before.before.before.before.args.tables c.before.before.before.before.before.before.before.args.change c.before.before.before.before.dhcpv4-apply.ensures c.before.before.before.before.before.before.nothing.ensures c.before.before.before.before.before.installed.ensures c.zero.ensures
 
 pub dropping-spec : {M : Type 1} → statement M
 dropping-spec =

@@ -1,5 +1,5 @@
 use mathlib.Core.Path.{sym, ap, ◌∙◌}
-use Rattle.client.specs.Clients.{wholeClient, wholeOr, leaseFits}
+use Rattle.client.specs.Clients.{whole_client, whole_or, lease_fits}
 use Rattle.octets.specs.declared.number.MaybeNumber.{MaybeNumber}
 use borrow.Author.Rules.{rules}
 use Rattle.client.proofs.client.Client.is_whole.Statement.{statement}
@@ -18,12 +18,12 @@ enum-told-2 : tie.Need-enum-told-2
 enum-told-2 c = search rules
 
 returns : tie.Need-returns
-unfolding wholeClient
-returns c = c.lease-fits.ensures ∙ ap (λ (m : MaybeNumber). wholeOr m (leaseFits c.before.before.before.before.before.args.self.session.state c.before.before.before.before.before.args.self.lease)) (sym c.before.enum_told.given.1 ∙ c.before.before.before.refusal.ensures)
+unfolding whole_client
+returns c = c.lease_fits_lem.ensures ∙ ap (λ (m : MaybeNumber). whole_or m (lease_fits c.before.before.before.before.before.args.self.session.state c.before.before.before.before.before.args.self.lease)) (sym c.before.enum_told.given.1 ∙ c.before.before.before.refusal.ensures)
 
 returns-2 : tie.Need-returns-2
-unfolding wholeClient
-returns-2 c = ap (λ (m : MaybeNumber). wholeOr m (leaseFits c.before.before.before.before.args.self.session.state c.before.before.before.before.args.self.lease)) (sym c.enum-told2.given.1 ∙ c.before.before.refusal.ensures)
+unfolding whole_client
+returns-2 c = ap (λ (m : MaybeNumber). whole_or m (lease_fits c.before.before.before.before.args.self.session.state c.before.before.before.before.args.self.lease)) (sym c.enum-told2.given.1 ∙ c.before.before.refusal.ensures)
 
 pub is-whole-spec : {M : Type 1} → statement M
 is-whole-spec =

@@ -1,4 +1,4 @@
-use Rattle.client.proofs.Settling.{made-fresh, made_none}
+use Rattle.client.proofs.Settling.{made_fresh, made_none}
 use borrow.Author.Rules.{rules}
 use Rattle.client.proofs.client.Client.new.Statement.{statement}
 use Rattle.client.proofs.client.Client.new.Tie as tie
@@ -19,7 +19,7 @@ zero-requires : tie.Need-zero-requires
 zero-requires c κs = search rules
 
 returns : tie.Need-returns
-returns c = made-fresh _ _ c.before.before.before.refusal.ensures c.before.enum_told.given.1 c.fresh.ensures
+returns c = made_fresh _ _ c.before.before.before.refusal.ensures c.before.enum_told.given.1 c.fresh.ensures
 
 returns-2 : tie.Need-returns-2
 returns-2 c = made_none _ _ c.before.before.before.before.refusal.ensures c.before.before.number.given.1 c.zero.ensures

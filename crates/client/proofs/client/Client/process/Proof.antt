@@ -1,7 +1,7 @@
 use mathlib.Core.Path.{sym, ◌∙◌}
 use borrow.Author.Tests.{not-true, not-false}
 use Rattle.client.proofs.Wholes.{tested}
-use Rattle.client.proofs.Settling.{process-broken, offer-taken, ack-taken, nak-taken, passed_over}
+use Rattle.client.proofs.Settling.{process_broken, offer_taken, ack_taken, nak_taken, passed_over}
 use borrow.Author.Rules.{rules}
 use Rattle.client.proofs.client.Client.process.Statement.{statement}
 use Rattle.client.proofs.client.Client.process.Tie as tie
@@ -13,7 +13,7 @@ is-whole-requires-2 : tie.Need-is-whole-requires-2
 is-whole-requires-2 c κs = search rules
 
 returns : tie.Need-returns
-returns c = process-broken c.before.before.before.before.args.self c.before.before.before.before.args.tables _ _ _ (sym (tested c.before.before.before.before.args.self c.before.before.before.before.args.tables c.before.before.is_whole.ensures c.before.is-whole2.ensures) ∙ not-true _ c.if1.true)
+returns c = process_broken c.before.before.before.before.args.self c.before.before.before.before.args.tables _ _ _ (sym (tested c.before.before.before.before.args.self c.before.before.before.before.args.tables c.before.before.is_whole.ensures c.before.is-whole2.ensures) ∙ not-true _ c.if1.true)
 
 recipient-requires : tie.Need-recipient-requires
 recipient-requires c κs = search rules
@@ -28,7 +28,7 @@ requesting-requires : tie.Need-requesting-requires
 requesting-requires c κs = search rules
 
 returns-2 : tie.Need-returns-2
-returns-2 c = offer-taken c.before.before.before.before.before.before.before.before.before.before.before.args.self c.before.before.before.before.before.before.before.before.before.before.before.args.tables _ _ _ (sym (tested c.before.before.before.before.before.before.before.before.before.before.before.args.self c.before.before.before.before.before.before.before.before.before.before.before.args.tables c.before.before.before.before.before.before.before.before.before.is_whole.ensures c.before.before.before.before.before.before.before.before.is-whole2.ensures) ∙ not-false _ c.before.before.before.before.before.before.before.if1.false) c.before.before.before.before.before.before.recipient.ensures c.before.before.before.before.before.judge.ensures c.before.before.before.verdict.given.1 c.requesting.ensures
+returns-2 c = offer_taken c.before.before.before.before.before.before.before.before.before.before.before.args.self c.before.before.before.before.before.before.before.before.before.before.before.args.tables _ _ _ (sym (tested c.before.before.before.before.before.before.before.before.before.before.before.args.self c.before.before.before.before.before.before.before.before.before.before.before.args.tables c.before.before.before.before.before.before.before.before.before.is_whole.ensures c.before.before.before.before.before.before.before.before.is-whole2.ensures) ∙ not-false _ c.before.before.before.before.before.before.before.if1.false) c.before.before.before.before.before.before.recipient.ensures c.before.before.before.before.before.judge.ensures c.before.before.before.verdict.given.1 c.requesting.ensures
 
 enum-known-verdict-2 : tie.Need-enum-known-verdict-2
 enum-known-verdict-2 c = search rules
@@ -40,7 +40,7 @@ taken-requires : tie.Need-taken-requires
 taken-requires c κs = search rules
 
 returns-3 : tie.Need-returns-3
-returns-3 c = ack-taken c.before.before.before.before.before.before.before.before.before.before.before.args.self c.before.before.before.before.before.before.before.before.before.before.before.args.tables _ _ _ (sym (tested c.before.before.before.before.before.before.before.before.before.before.before.args.self c.before.before.before.before.before.before.before.before.before.before.before.args.tables c.before.before.before.before.before.before.before.before.before.is_whole.ensures c.before.before.before.before.before.before.before.before.is-whole2.ensures) ∙ not-false _ c.before.before.before.before.before.before.before.if1.false) c.before.before.before.before.before.before.recipient.ensures c.before.before.before.before.before.judge.ensures c.before.before.before.verdict2.given.1 c.before.acked.ensures c.taken.ensures
+returns-3 c = ack_taken c.before.before.before.before.before.before.before.before.before.before.before.args.self c.before.before.before.before.before.before.before.before.before.before.before.args.tables _ _ _ (sym (tested c.before.before.before.before.before.before.before.before.before.before.before.args.self c.before.before.before.before.before.before.before.before.before.before.before.args.tables c.before.before.before.before.before.before.before.before.before.is_whole.ensures c.before.before.before.before.before.before.before.before.is-whole2.ensures) ∙ not-false _ c.before.before.before.before.before.before.before.if1.false) c.before.before.before.before.before.before.recipient.ensures c.before.before.before.before.before.judge.ensures c.before.before.before.verdict2.given.1 c.before.acked.ensures c.taken.ensures
 
 enum_told : tie.Need-enum-told
 enum_told c = search rules
@@ -52,7 +52,7 @@ taken-requires-2 : tie.Need-taken-requires-2
 taken-requires-2 c κs = search rules
 
 returns-4 : tie.Need-returns-4
-returns-4 c = nak-taken c.before.before.before.before.before.before.before.before.before.before.args.self c.before.before.before.before.before.before.before.before.before.before.args.tables _ _ _ (sym (tested c.before.before.before.before.before.before.before.before.before.before.args.self c.before.before.before.before.before.before.before.before.before.before.args.tables c.before.before.before.before.before.before.before.before.is_whole.ensures c.before.before.before.before.before.before.before.is-whole2.ensures) ∙ not-false _ c.before.before.before.before.before.before.if1.false) c.before.before.before.before.before.recipient.ensures c.before.before.before.before.judge.ensures c.before.before.enum_told.given.1 c.before.cleared.ensures c.taken2.ensures
+returns-4 c = nak_taken c.before.before.before.before.before.before.before.before.before.before.args.self c.before.before.before.before.before.before.before.before.before.before.args.tables _ _ _ (sym (tested c.before.before.before.before.before.before.before.before.before.before.args.self c.before.before.before.before.before.before.before.before.before.before.args.tables c.before.before.before.before.before.before.before.before.is_whole.ensures c.before.before.before.before.before.before.before.is-whole2.ensures) ∙ not-false _ c.before.before.before.before.before.before.if1.false) c.before.before.before.before.before.recipient.ensures c.before.before.before.before.judge.ensures c.before.before.enum_told.given.1 c.before.cleared.ensures c.taken2.ensures
 
 enum-known-verdict-3 : tie.Need-enum-known-verdict-3
 enum-known-verdict-3 c = search rules

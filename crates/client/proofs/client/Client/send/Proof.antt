@@ -1,4 +1,4 @@
-use Rattle.client.proofs.Changes.{change-unwritten, change-written, change-short}
+use Rattle.client.proofs.Changes.{change_unwritten, change_written_lem, change_short}
 use borrow.Author.Rules.{rules}
 use Rattle.client.proofs.client.Client.send.Statement.{statement}
 use Rattle.client.proofs.client.Client.send.Tie as tie
@@ -13,7 +13,7 @@ moved-requires : tie.Need-moved-requires
 moved-requires c κs = search rules
 
 returns : tie.Need-returns
-returns c = change-unwritten c.before.before.before.before.before.before.args.self c.before.before.before.before.before.before.args.rand c.before.before.before.before.before.before.args.wake c.before.before.before.before.before.before.args.sending _ c.before.before.if1.true c.before.before.before.drawn.ensures c.before.silent.ensures c.moved.ensures
+returns c = change_unwritten c.before.before.before.before.before.before.args.self c.before.before.before.before.before.before.args.rand c.before.before.before.before.before.before.args.wake c.before.before.before.before.before.before.args.sending _ c.before.before.if1.true c.before.before.before.drawn.ensures c.before.silent.ensures c.moved.ensures
 
 endpoints-requires : tie.Need-endpoints-requires
 endpoints-requires c κs = search rules
@@ -40,13 +40,13 @@ same_length : tie.Need-same-length
 same_length c = search rules
 
 returns-2 : tie.Need-returns-2
-returns-2 c = change-written c.before.before.before.before.before.before.before.before.before.before.before.before.before.before.args.self c.before.before.before.before.before.before.before.before.before.before.before.before.before.before.args.rand c.before.before.before.before.before.before.before.before.before.before.before.before.before.before.args.wake c.before.before.before.before.before.before.before.before.before.before.before.before.before.before.args.sending _ c.before.before.before.before.before.before.before.before.before.before.if1.false c.before.before.before.before.before.before.before.before.before.before.before.drawn.ensures c.before.before.before.before.before.before.before.before.before.endpoints.ensures c.before.before.before.before.before.before.before.write.ensures c.before.before.before.n.given.1 c.before.built.ensures c.moved2.ensures
+returns-2 c = change_written_lem c.before.before.before.before.before.before.before.before.before.before.before.before.before.before.args.self c.before.before.before.before.before.before.before.before.before.before.before.before.before.before.args.rand c.before.before.before.before.before.before.before.before.before.before.before.before.before.before.args.wake c.before.before.before.before.before.before.before.before.before.before.before.before.before.before.args.sending _ c.before.before.before.before.before.before.before.before.before.before.if1.false c.before.before.before.before.before.before.before.before.before.before.before.drawn.ensures c.before.before.before.before.before.before.before.before.before.endpoints.ensures c.before.before.before.before.before.before.before.write.ensures c.before.before.before.n.given.1 c.before.built.ensures c.moved2.ensures
 
 same-length-2 : tie.Need-same-length-2
 same-length-2 c = search rules
 
 returns-3 : tie.Need-returns-3
-returns-3 c = change-short c.before.before.before.before.before.before.before.before.before.before.before.before.args.self c.before.before.before.before.before.before.before.before.before.before.before.before.args.rand c.before.before.before.before.before.before.before.before.before.before.before.before.args.wake c.before.before.before.before.before.before.before.before.before.before.before.before.args.sending _ c.before.before.before.before.before.before.before.before.if1.false c.before.before.before.before.before.before.before.before.before.drawn.ensures c.before.before.before.before.before.before.before.endpoints.ensures c.before.before.before.before.before.write.ensures c.before.enum_told.given.1 c.unmoved.ensures
+returns-3 c = change_short c.before.before.before.before.before.before.before.before.before.before.before.before.args.self c.before.before.before.before.before.before.before.before.before.before.before.before.args.rand c.before.before.before.before.before.before.before.before.before.before.before.before.args.wake c.before.before.before.before.before.before.before.before.before.before.before.before.args.sending _ c.before.before.before.before.before.before.before.before.if1.false c.before.before.before.before.before.before.before.before.before.drawn.ensures c.before.before.before.before.before.before.before.endpoints.ensures c.before.before.before.before.before.write.ensures c.before.enum_told.given.1 c.unmoved.ensures
 
 pub send-spec : {M : Type 1} → statement M
 send-spec =

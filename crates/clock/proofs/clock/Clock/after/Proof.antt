@@ -1,4 +1,4 @@
-use Rattle.clock.specs.Clocks.{timerAfter}
+use Rattle.clock.specs.Clocks.{timer_after}
 use Rattle.std.proofs.Common.{rules}
 use Rattle.clock.proofs.clock.Clock.after.Statement.{statement}
 use Rattle.clock.proofs.clock.Clock.after.Tie as tie
@@ -10,7 +10,7 @@ schedule-requires : tie.Need-schedule-requires
 schedule-requires c κs = search rules
 
 returns : tie.Need-returns
-unfolding timerAfter
+unfolding timer_after
 returns c = cc
 
 pub after-spec : {M : Type 1} → statement M

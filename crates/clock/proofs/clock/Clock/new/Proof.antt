@@ -1,4 +1,4 @@
-use Rattle.clock.specs.Clocks.{clockAt}
+use Rattle.clock.specs.Clocks.{clock_at}
 use Rattle.std.proofs.Common.{rules}
 use Rattle.clock.proofs.clock.Clock.new.Statement.{statement}
 use Rattle.clock.proofs.clock.Clock.new.Tie as tie
@@ -7,7 +7,7 @@ add-requires : tie.Need-add-requires
 add-requires c κs = search rules
 
 returns : tie.Need-returns
-unfolding clockAt
+unfolding clock_at
 returns c = cc
 
 pub new_spec : {M : Type 1} → statement M

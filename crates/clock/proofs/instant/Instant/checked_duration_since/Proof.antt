@@ -1,6 +1,6 @@
 use Rattle.std.proofs.Common.{refl, rules}
-use Rattle.clock.specs.Durations.{noneIf}
-use Rattle.choice.proofs.Choices.{if-true, if-false}
+use Rattle.clock.specs.Durations.{none_if}
+use Rattle.choice.proofs.Choices.{if_true, if_false}
 use Rattle.clock.proofs.instant.Instant.checked_duration_since.Statement.{statement}
 use Rattle.clock.proofs.instant.Instant.checked_duration_since.Tie as tie
 
@@ -8,8 +8,8 @@ is-before-requires : tie.Need-is-before-requires
 is-before-requires c κs = search rules
 
 returns : tie.Need-returns
-unfolding noneIf
-returns c = if-true _ (cc) refl
+unfolding none_if
+returns c = if_true _ (cc) refl
 
 wrapped-gap-requires : tie.Need-wrapped-gap-requires
 wrapped-gap-requires c κs = search rules
@@ -18,8 +18,8 @@ from-millis-requires : tie.Need-from-millis-requires
 from-millis-requires c κs = search rules
 
 returns-2 : tie.Need-returns-2
-unfolding noneIf
-returns-2 c = if-false _ (cc) (cc)
+unfolding none_if
+returns-2 c = if_false _ (cc) (cc)
 
 pub checked-duration-since-spec : {M : Type 1} → statement M
 checked-duration-since-spec =

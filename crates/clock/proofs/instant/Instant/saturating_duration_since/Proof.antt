@@ -1,7 +1,7 @@
 use Rattle.std.proofs.Common.{refl, ap, ◌∙◌, rules}
 use Rattle.clock.specs.Moments.{rest}
 use Rattle.clock.specs.Durations.{duration}
-use Rattle.choice.proofs.Choices.{if-true, if-false}
+use Rattle.choice.proofs.Choices.{if_true, if_false}
 use Rattle.clock.proofs.instant.Instant.saturating_duration_since.Statement.{statement}
 use Rattle.clock.proofs.instant.Instant.saturating_duration_since.Tie as tie
 
@@ -10,7 +10,7 @@ is-before-requires c κs = search rules
 
 returns : tie.Need-returns
 unfolding rest
-returns c = ap duration (if-true _ (cc) refl)
+returns c = ap duration (if_true _ (cc) refl)
 
 wrapped-gap-requires : tie.Need-wrapped-gap-requires
 wrapped-gap-requires c κs = search rules
@@ -20,7 +20,7 @@ from-millis-requires c κs = search rules
 
 returns-2 : tie.Need-returns-2
 unfolding rest
-returns-2 c = c.from-millis.ensures ∙ ap duration (if-false _ (cc) (cc))
+returns-2 c = c.from-millis.ensures ∙ ap duration (if_false _ (cc) (cc))
 
 pub saturating-duration-since-spec : {M : Type 1} → statement M
 saturating-duration-since-spec =

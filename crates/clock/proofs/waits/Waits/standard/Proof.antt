@@ -1,10 +1,10 @@
 use Rattle.std.proofs.Common.{refl}
-use Rattle.clock.specs.Waits.{standardWaits}
+use Rattle.clock.specs.Waits.{standard_waits}
 use Rattle.clock.proofs.waits.Waits.standard.Statement.{statement}
 use Rattle.clock.proofs.waits.Waits.standard.Tie as tie
 
 returns : tie.Need-returns
-unfolding standardWaits
+unfolding standard_waits
 returns c = refl
 
 pub standard-spec : {M : Type 1} → statement M

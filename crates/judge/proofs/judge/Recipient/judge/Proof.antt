@@ -1,5 +1,5 @@
 use mathlib.Core.Path.{sym, ◌∙◌}
-use Rattle.judge.proofs.Judging.{needing-none, needing-some, header-passed-over, header-passes}
+use Rattle.judge.proofs.Judging.{needing_none, needing_some, header_passed_over, header_passes}
 use borrow.Author.Rules.{rules}
 use Rattle.judge.proofs.judge.Recipient.judge.Statement.{statement}
 use Rattle.judge.proofs.judge.Recipient.judge.Tie as tie
@@ -26,13 +26,13 @@ judge-sender-requires : tie.Need-judge-sender-requires
 judge-sender-requires c κs = search rules
 
 returns : tie.Need-returns
-returns c = header-passed-over _ _ _ c.before.before.before.check-header.ensures c.before.number.given.1
+returns c = header_passed_over _ _ _ c.before.before.before.check-header.ensures c.before.number.given.1
 
 returns-2 : tie.Need-returns-2
-returns-2 c = header-passes _ _ _ c.before.before.before.before.before.check-header.ensures c.before.before.before.enum_told.given.1 (needing-none _ _ (sym c.before.before.message-type.ensures ∙ c.enum-told2.given.1))
+returns-2 c = header_passes _ _ _ c.before.before.before.before.before.check-header.ensures c.before.before.before.enum_told.given.1 (needing_none _ _ (sym c.before.before.message-type.ensures ∙ c.enum-told2.given.1))
 
 returns-3 : tie.Need-returns-3
-returns-3 c = header-passes _ _ _ c.before.before.before.before.before.before.before.check-header.ensures c.before.before.before.before.before.enum_told.given.1 (needing-some _ _ (sym c.before.before.before.before.message-type.ensures ∙ c.before.before.kind.given.1) c.judge-sender.ensures)
+returns-3 c = header_passes _ _ _ c.before.before.before.before.before.before.before.check-header.ensures c.before.before.before.before.before.enum_told.given.1 (needing_some _ _ (sym c.before.before.before.before.message-type.ensures ∙ c.before.before.kind.given.1) c.judge-sender.ensures)
 
 pub judge-spec : {M : Type 1} → statement M
 judge-spec =

@@ -1,8 +1,8 @@
 use mathlib.Core.Path.{◌∙◌}
-use Rattle.clock.specs.Clocks.{clockAt, gathering}
-use Rattle.machine.specs.Decisions.{decidedDiscovering}
-use Rattle.choice.proofs.Choices.{if-true, if-false}
-use Rattle.machine.proofs.Deadlines.{due-expired, gathered}
+use Rattle.clock.specs.Clocks.{clock_at, gathering}
+use Rattle.machine.specs.Decisions.{decided_discovering}
+use Rattle.choice.proofs.Choices.{if_true, if_false}
+use Rattle.machine.proofs.Deadlines.{due_expired, gathered}
 use borrow.Author.Rules.{rules}
 use Rattle.machine.proofs.state.DiscoverState.decide.Statement.{statement}
 use Rattle.machine.proofs.state.DiscoverState.decide.Tie as tie
@@ -17,19 +17,19 @@ discover-requires : tie.Need-discover-requires
 discover-requires c κs = search rules
 
 returns : tie.Need-returns
-unfolding decidedDiscovering clockAt
+unfolding decided_discovering clock_at
 returns c =
     let retry = rw c.before.before.before.new.ensures at c.before.before.expired.ensures in
-    if-true _ (due-expired _ _ retry ∙ c.before.if1.true) c.discover.ensures
+    if_true _ (due_expired _ _ retry ∙ c.before.if1.true) c.discover.ensures
 
 wait-requires : tie.Need-wait-requires
 wait-requires c κs = search rules
 
 returns-2 : tie.Need-returns-2
-unfolding decidedDiscovering clockAt gathering
+unfolding decided_discovering clock_at gathering
 returns-2 c =
     let retry = rw c.before.before.before.new.ensures at c.before.before.expired.ensures in
-    if-false _ (due-expired _ _ retry ∙ c.before.if1.false) (c.wait.ensures ∙ rw (gathered _ _ retry c.before.if1.false))
+    if_false _ (due_expired _ _ retry ∙ c.before.if1.false) (c.wait.ensures ∙ rw (gathered _ _ retry c.before.if1.false))
 
 pub decide-spec : {M : Type 1} → statement M
 decide-spec =

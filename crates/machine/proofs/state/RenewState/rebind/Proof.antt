@@ -1,5 +1,5 @@
 use mathlib.Core.Path.{◌∙◌}
-use Rattle.clock.specs.Clocks.{gathering, timerAfter}
+use Rattle.clock.specs.Clocks.{gathering, timer_after}
 use borrow.Author.Rules.{rules}
 use Rattle.machine.proofs.state.RenewState.rebind.Statement.{statement}
 use Rattle.machine.proofs.state.RenewState.rebind.Tie as tie
@@ -14,7 +14,7 @@ send-requires : tie.Need-send-requires
 send-requires c κs = search rules
 
 returns : tie.Need-returns
-unfolding gathering timerAfter
+unfolding gathering timer_after
 returns c = c.send.ensures ∙ rw (c.before.before.after.ensures, c.before.before.before.rebind-wait.ensures)
 
 pub rebind-spec : {M : Type 1} → statement M

@@ -1,5 +1,5 @@
 use mathlib.Core.Path.{◌∙◌}
-use Rattle.clock.specs.Clocks.{clockAt, gathering, timerAfter}
+use Rattle.clock.specs.Clocks.{clock_at, gathering, timer_after}
 use borrow.Author.Rules.{rules}
 use Rattle.machine.proofs.state.RequestState.request.Statement.{statement}
 use Rattle.machine.proofs.state.RequestState.request.Tie as tie
@@ -20,7 +20,7 @@ send-requires : tie.Need-send-requires
 send-requires c κs = search rules
 
 returns : tie.Need-returns
-unfolding clockAt gathering timerAfter
+unfolding clock_at gathering timer_after
 returns c = c.send.ensures ∙ rw (c.before.before.after.ensures, c.before.before.before.request-wait.ensures, c.before.before.before.before.new.ensures)
 
 pub request-spec : {M : Type 1} → statement M

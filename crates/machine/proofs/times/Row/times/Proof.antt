@@ -1,4 +1,4 @@
-use Rattle.machine.proofs.Rows.{both-times, renew-times, rebind-times, neither-times}
+use Rattle.machine.proofs.Rows.{both_times, renew_times, rebind_times, neither_times}
 use borrow.Author.Rules.{rules}
 use Rattle.machine.proofs.times.Row.times.Statement.{statement}
 use Rattle.machine.proofs.times.Row.times.Tie as tie
@@ -31,16 +31,16 @@ mul-t13 : tie.Need-overflow-mul-t13
 mul-t13 c = search rules
 
 returns : tie.Need-returns
-returns c = both-times _ c.before.self.given.1
+returns c = both_times _ c.before.self.given.1
 
 returns-2 : tie.Need-returns-2
-returns-2 c = renew-times _ c.before.before.self2.given.1 c.late.ensures
+returns-2 c = renew_times _ c.before.before.self2.given.1 c.late.ensures
 
 returns-3 : tie.Need-returns-3
-returns-3 c = rebind-times _ c.before.before.before.self3.given.1 c.before.half.ensures c.min.ensures
+returns-3 c = rebind_times _ c.before.before.before.self3.given.1 c.before.half.ensures c.min.ensures
 
 returns-4 : tie.Need-returns-4
-returns-4 c = neither-times _ c.before.before.enum_told.given.1 c.before.half2.ensures
+returns-4 c = neither_times _ c.before.before.enum_told.given.1 c.before.half2.ensures
 
 pub times-spec : {M : Type 1} → statement M
 times-spec =

@@ -1,5 +1,5 @@
-use Rattle.settings.proofs.Refusals.{longest-length}
-use Rattle.settings.specs.Settings.{extraOf}
+use Rattle.settings.proofs.Refusals.{longest_length_lem}
+use Rattle.settings.specs.Settings.{extra_of}
 use lib.Seq.{length-take-le}
 use lib.ListN.{length}
 use mathlib.Core.Path.{◌≡◌}
@@ -32,8 +32,8 @@ add-result-3 c = search rules
 returns : tie.Need-returns
 returns c =
     let s = c.before.before.before.args.self in
-    let e : length (extraOf s) ≡ s.extra_len = length-take-le s.extra_len s.extra (omega (arith, c.before.before.before.requires.extra, extra-size c.before.before.before)) in
-    omega (arith, e, c.before.asked-len.ensures.0, c.before.before.named-len.ensures.0, longest-length s (hardware-size c.before.before.before))
+    let e : length (extra_of s) ≡ s.extra_len = length-take-le s.extra_len s.extra (omega (arith, c.before.before.before.requires.extra, extra-size c.before.before.before)) in
+    omega (arith, e, c.before.asked-len.ensures.0, c.before.before.named-len.ensures.0, longest_length_lem s (hardware-size c.before.before.before))
 
 pub longest-len-spec : {M : Type 1} → statement M
 longest-len-spec =

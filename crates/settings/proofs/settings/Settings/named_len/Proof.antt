@@ -1,4 +1,4 @@
-use Rattle.message.proofs.Messages.{name-some, name-none}
+use Rattle.message.proofs.Messages.{name_some, name_none}
 use Rattle.settings.specs.Settings.{name_of}
 use lib.Seq.{length-take-le}
 use lib.ListN.{length, take}
@@ -15,7 +15,7 @@ returns : tie.Need-returns
 returns c =
     let s = c.before.before.args.self in
     let e : length (name_of s) ≡ s.name_len = length-take-le s.name_len s.name (omega (arith, size c.before.before)) in
-    (omega (arith, ap length (name-none (name_of s) (e ∙ c.if1.true))), omega arith)
+    (omega (arith, ap length (name_none (name_of s) (e ∙ c.if1.true))), omega arith)
 
 add-result : tie.Need-overflow-add-result
 add-result c = search rules
@@ -24,7 +24,7 @@ returns-2 : tie.Need-returns-2
 returns-2 c =
     let s = c.before.before.before.args.self in
     let e : length (name_of s) ≡ s.name_len = length-take-le s.name_len s.name (omega (arith, c.before.before.before.requires.name, size c.before.before.before)) in
-    (omega (arith, e, ap length (name-some (name_of s) (λ z. c.before.if1.false (sym e ∙ z)))), omega (arith, c.before.before.before.requires.name))
+    (omega (arith, e, ap length (name_some (name_of s) (λ z. c.before.if1.false (sym e ∙ z)))), omega (arith, c.before.before.before.requires.name))
 
 pub named-len-spec : {M : Type 1} → statement M
 named-len-spec = tie.close (tie.spec returns add-result returns-2)

@@ -1,5 +1,5 @@
-use Rattle.settings.specs.Settings.{refusalOf}
-use Rattle.choice.proofs.Choices.{if-true, if-false, tests}
+use Rattle.settings.specs.Settings.{refusal_of}
+use Rattle.choice.proofs.Choices.{if_true, if_false, tests}
 use mathlib.Core.Path.{refl, sym, ap, ◌∙◌}
 use mathlib.Core.Bool.{not}
 use borrow.Author.Rules.{rules}
@@ -10,23 +10,23 @@ is-ethernet-requires : tie.Need-is-ethernet-requires
 is-ethernet-requires c κs = search rules
 
 returns : tie.Need-returns
-unfolding refusalOf
-returns c = if-true _ (ap not (sym c.before.is-ethernet.ensures) ∙ c.if1.true) refl
+unfolding refusal_of
+returns c = if_true _ (ap not (sym c.before.is-ethernet.ensures) ∙ c.if1.true) refl
 
 returns-2 : tie.Need-returns-2
-unfolding refusalOf
-returns-2 c = if-false _ (ap not (sym c.before.before.before.is-ethernet.ensures) ∙ c.before.before.if1.false) (if-true _ (search tests) refl)
+unfolding refusal_of
+returns-2 c = if_false _ (ap not (sym c.before.before.before.is-ethernet.ensures) ∙ c.before.before.if1.false) (if_true _ (search tests) refl)
 
 returns-3 : tie.Need-returns-3
-unfolding refusalOf
-returns-3 c = if-false _ (ap not (sym c.before.before.before.before.before.is-ethernet.ensures) ∙ c.before.before.before.before.if1.false) (if-false _ (search tests) (if-true _ (search tests) refl))
+unfolding refusal_of
+returns-3 c = if_false _ (ap not (sym c.before.before.before.before.before.is-ethernet.ensures) ∙ c.before.before.before.before.if1.false) (if_false _ (search tests) (if_true _ (search tests) refl))
 
 lists-refusal-requires : tie.Need-lists-refusal-requires
 lists-refusal-requires c κs = search rules
 
 returns-4 : tie.Need-returns-4
-unfolding refusalOf
-returns-4 c = if-false _ (ap not (sym c.before.before.before.before.before.before.is-ethernet.ensures) ∙ c.before.before.before.before.before.if1.false) (if-false _ (search tests) (if-false _ (search tests) c.lists-refusal.ensures))
+unfolding refusal_of
+returns-4 c = if_false _ (ap not (sym c.before.before.before.before.before.before.is-ethernet.ensures) ∙ c.before.before.before.before.before.if1.false) (if_false _ (search tests) (if_false _ (search tests) c.lists-refusal.ensures))
 
 pub refusal-spec : {M : Type 1} → statement M
 refusal-spec =

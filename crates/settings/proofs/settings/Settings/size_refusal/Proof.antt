@@ -1,5 +1,5 @@
-use Rattle.settings.specs.Settings.{longestLength, sizeRefusal}
-use Rattle.choice.proofs.Choices.{if-true, if-false}
+use Rattle.settings.specs.Settings.{longest_length, size_refusal}
+use Rattle.choice.proofs.Choices.{if_true, if_false}
 use native.Mathlib.Omega.{arith}
 use borrow.Author.Tests.{lt-ltb, le-ltb}
 use mathlib.Core.Path.{refl, sym, ap, ◌∙◌}
@@ -13,16 +13,16 @@ has-whole-extra-requires : tie.Need-has-whole-extra-requires
 has-whole-extra-requires c κs = search rules
 
 returns : tie.Need-returns
-unfolding sizeRefusal
-returns c = if-true _ (ap not (sym c.before.has-whole-extra.ensures) ∙ c.if1.true) refl
+unfolding size_refusal
+returns c = if_true _ (ap not (sym c.before.has-whole-extra.ensures) ∙ c.if1.true) refl
 
 is-over-cap-requires : tie.Need-is-over-cap-requires
 is-over-cap-requires c κs = search rules
 
 returns-2 : tie.Need-returns-2
-unfolding sizeRefusal
-returns-2 c = if-false _ (ap not (sym c.before.before.before.has-whole-extra.ensures) ∙ c.before.before.if1.false)
-    (if-true _ (sym c.before.is-over-cap.ensures ∙ c.if2.true) refl)
+unfolding size_refusal
+returns-2 c = if_false _ (ap not (sym c.before.before.before.has-whole-extra.ensures) ∙ c.before.before.if1.false)
+    (if_true _ (sym c.before.is-over-cap.ensures ∙ c.if2.true) refl)
 
 sub-if3 : tie.Need-overflow-sub-if3
 sub-if3 c = search rules
@@ -34,20 +34,20 @@ longest-len-requires : tie.Need-longest-len-requires
 longest-len-requires c κs = search rules
 
 returns-3 : tie.Need-returns-3
-unfolding sizeRefusal
+unfolding size_refusal
 returns-3 c =
     let s = c.before.before.before.before.before.before.before.args.self in
-    if-false _ (ap not (sym c.before.before.before.before.before.before.has-whole-extra.ensures) ∙ c.before.before.before.before.before.if1.false)
-    (if-false _ (sym c.before.before.before.before.is-over-cap.ensures ∙ c.before.before.before.if2.false)
-    (if-true _ (lt-ltb (s.mtu - 28) (longestLength s) (omega (arith, c.if3.true, c.before.longest-len.ensures))) refl))
+    if_false _ (ap not (sym c.before.before.before.before.before.before.has-whole-extra.ensures) ∙ c.before.before.before.before.before.if1.false)
+    (if_false _ (sym c.before.before.before.before.is-over-cap.ensures ∙ c.before.before.before.if2.false)
+    (if_true _ (lt-ltb (s.mtu - 28) (longest_length s) (omega (arith, c.if3.true, c.before.longest-len.ensures))) refl))
 
 returns-4 : tie.Need-returns-4
-unfolding sizeRefusal
+unfolding size_refusal
 returns-4 c =
     let s = c.before.before.before.before.before.before.before.args.self in
-    if-false _ (ap not (sym c.before.before.before.before.before.before.has-whole-extra.ensures) ∙ c.before.before.before.before.before.if1.false)
-    (if-false _ (sym c.before.before.before.before.is-over-cap.ensures ∙ c.before.before.before.if2.false)
-    (if-false _ (le-ltb (s.mtu - 28) (longestLength s) (omega (arith, c.if3.false, c.before.longest-len.ensures))) refl))
+    if_false _ (ap not (sym c.before.before.before.before.before.before.has-whole-extra.ensures) ∙ c.before.before.before.before.before.if1.false)
+    (if_false _ (sym c.before.before.before.before.is-over-cap.ensures ∙ c.before.before.before.if2.false)
+    (if_false _ (le-ltb (s.mtu - 28) (longest_length s) (omega (arith, c.if3.false, c.before.longest-len.ensures))) refl))
 
 pub size-refusal-spec : {M : Type 1} → statement M
 size-refusal-spec =

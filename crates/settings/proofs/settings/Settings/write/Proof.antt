@@ -1,6 +1,6 @@
 use lib.ListN.{length}
 use mathlib.Core.Path.{◌≡◌, sym, ◌∙◌}
-use Rattle.settings.proofs.Refusals.{writes, listed-list, default-list}
+use Rattle.settings.proofs.Refusals.{writes, listed_list, default_list}
 use borrow.Author.Rules.{rules}
 use Rattle.settings.proofs.settings.Settings.write.Statement.{statement}
 use Rattle.settings.proofs.settings.Settings.write.Tie as tie
@@ -33,7 +33,7 @@ same_length : tie.Need-same-length
 same_length c = search rules
 
 returns : tie.Need-returns
-returns c = writes c.before.before.before.before.before.before.before.before.before.before.before.before.before.before.before.args.m c.before.before.before.before.before.before.before.before.before.before.before.before.before.before.before.args.ends c.before.before.before.before.before.before.before.before.before.before.before.before.before.before.before.args.self.offload _ c.before.before.before.before.before.before.before.up_to_lem.ensures (c.before.before.before.before.before.up-to2.ensures ∙ sym (listed-list c.before.before.before.before.before.before.before.before.before.before.before.before.before.before.before.args.self c.before.before.before.before.before.before.before.before.before.before.before.if1.true)) c.before.before.before.up-to3.ensures c.before.before.write-message.ensures
+returns c = writes c.before.before.before.before.before.before.before.before.before.before.before.before.before.before.before.args.m c.before.before.before.before.before.before.before.before.before.before.before.before.before.before.before.args.ends c.before.before.before.before.before.before.before.before.before.before.before.before.before.before.before.args.self.offload _ c.before.before.before.before.before.before.before.up_to_lem.ensures (c.before.before.before.before.before.up-to2.ensures ∙ sym (listed_list c.before.before.before.before.before.before.before.before.before.before.before.before.before.before.before.args.self c.before.before.before.before.before.before.before.before.before.before.before.if1.true)) c.before.before.before.up-to3.ensures c.before.before.write-message.ensures
 
 slice-aggregate-up-to-4 : tie.Need-slice-aggregate-up-to-4
 slice-aggregate-up-to-4 c = search rules
@@ -57,7 +57,7 @@ same-length-2 : tie.Need-same-length-2
 same-length-2 c = search rules
 
 returns-2 : tie.Need-returns-2
-returns-2 c = writes c.before.before.before.before.before.before.before.before.before.before.before.before.before.args.m c.before.before.before.before.before.before.before.before.before.before.before.before.before.args.ends c.before.before.before.before.before.before.before.before.before.before.before.before.before.args.self.offload _ c.before.before.before.before.before.before.up-to4.ensures (sym (default-list c.before.before.before.before.before.before.before.before.before.before.before.before.before.args.self c.before.before.before.before.before.before.before.before.before.if1.false)) c.before.before.before.up-to5.ensures c.before.before.write-message2.ensures
+returns-2 c = writes c.before.before.before.before.before.before.before.before.before.before.before.before.before.args.m c.before.before.before.before.before.before.before.before.before.before.before.before.before.args.ends c.before.before.before.before.before.before.before.before.before.before.before.before.before.args.self.offload _ c.before.before.before.before.before.before.up-to4.ensures (sym (default_list c.before.before.before.before.before.before.before.before.before.before.before.before.before.args.self c.before.before.before.before.before.before.before.before.before.if1.false)) c.before.before.before.up-to5.ensures c.before.before.write-message2.ensures
 
 pub write_spec : {M : Type 1} → statement M
 write_spec =

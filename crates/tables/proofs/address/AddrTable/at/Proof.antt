@@ -1,6 +1,6 @@
-use Rattle.tables.proofs.Loops.{past-use, within-use}
-use Rattle.tables.specs.Lookups.{addrOr}
-use Rattle.tables.specs.Tables.{zeroAddr}
+use Rattle.tables.proofs.Loops.{past_use, within_use}
+use Rattle.tables.specs.Lookups.{addr_or}
+use Rattle.tables.specs.Tables.{zero_addr}
 use Rattle.std.proofs.Common.{◌≡◌, length, sym, ap, rules}
 use lib.ListN.{length-map}
 use Rattle.tables.proofs.address.AddrTable.at.Statement.{statement}
@@ -14,7 +14,7 @@ at-most-requires c κs = search rules
 
 returns : tie.Need-returns
 returns c =
-    sym (ap addrOr (past-use c.before.at_most.result c.before.before.before.args.self.count c.before.before.before.args.place c.before.before.before.args.self.entries (size c.before.before.before) c.before.at_most.ensures c.if1.true))
+    sym (ap addr_or (past_use c.before.at_most.result c.before.before.before.args.self.count c.before.before.before.args.place c.before.before.before.args.self.entries (size c.before.before.before) c.before.at_most.ensures c.if1.true))
 
 mul-t6 : tie.Need-overflow-mul-t6
 mul-t6 c = search rules
@@ -24,7 +24,7 @@ array-copy-out-t9 c = search rules
 
 returns-2 : tie.Need-returns-2
 returns-2 c =
-    sym (ap addrOr (within-use c.before.before.at_most.result c.before.before.before.before.args.self.count c.before.before.before.before.args.place c.before.before.before.before.args.self.entries (size c.before.before.before.before) c.before.before.at_most.ensures zeroAddr c.before.if1.false))
+    sym (ap addr_or (within_use c.before.before.at_most.result c.before.before.before.before.args.self.count c.before.before.before.before.args.place c.before.before.before.before.args.self.entries (size c.before.before.before.before) c.before.before.at_most.ensures zero_addr c.before.if1.false))
 
 pub at-spec : {M : Type 1} → statement M
 at-spec = tie.close (tie.spec at-most-requires returns mul-t6 array-copy-out-t9 returns-2)

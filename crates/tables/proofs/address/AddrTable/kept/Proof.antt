@@ -1,13 +1,13 @@
-use Rattle.tables.proofs.Loops.{Taken, starts, passes, takes, taken-all}
-use Rattle.tables.specs.Changes.{addrKept}
-use Rattle.tables.specs.Tables.{zeroAddr}
+use Rattle.tables.proofs.Loops.{Taken, starts, passes, takes, taken_all}
+use Rattle.tables.specs.Changes.{addr_kept}
+use Rattle.tables.specs.Tables.{zero_addr}
 use Rattle.std.proofs.Common.{◌≡◌, ◌-◌, length, sym, ◌∙◌, ⊎_elim, arith, rules}
 use lib.ListN.{length-map}
 use Rattle.tables.proofs.address.AddrTable.kept.Statement.{statement}
 use Rattle.tables.proofs.address.AddrTable.kept.Tie as tie
 
 abbrev invariant-loop : tie.invariant-loop
-invariant-loop out entries n kept₀ k₀ i₀ kept k i = Taken (addrKept out) zeroAddr entries n kept k i
+invariant-loop out entries n kept₀ k₀ i₀ kept k i = Taken (addr_kept out) zero_addr entries n kept k i
 
 abbrev decreases-loop : tie.decreases-loop
 decreases-loop out entries n kept₀ k₀ i₀ kept k i = n - i
@@ -19,7 +19,7 @@ at-most-requires : tie.Need-at-most-requires invariant-loop decreases-loop
 at-most-requires c κs = search rules
 
 loop-holds : tie.Need-loop-init invariant-loop decreases-loop
-loop-holds c = starts (addrKept c.before.before.args.out) zeroAddr zeroAddr _ _ (size c.before.before) (omega arith)
+loop-holds c = starts (addr_kept c.before.before.args.out) zero_addr zero_addr _ _ (size c.before.before) (omega arith)
 
 mul-entry : tie.Need-overflow-mul-entry invariant-loop decreases-loop
 mul-entry c = search rules
@@ -50,14 +50,14 @@ loop-again c =
     let l = c.before.before.before.before.loop in
     let h = c.before.before.before.loop-test.true in
     ⊎_elim
-    (λ w. rw (w.1, w.2) (takes (addrKept c.before.before.before.before.before.before.before.args.out) zeroAddr zeroAddr _ _ l.auto l.k l.i l.invariant h (sym c.before.stays.ensures ∙ w.0.taken)))
-    (λ w. rw (w.1, w.2) (passes (addrKept c.before.before.before.before.before.before.before.args.out) zeroAddr zeroAddr _ _ l.auto l.k l.i l.invariant h (sym c.before.stays.ensures ∙ w.0.left)))
+    (λ w. rw (w.1, w.2) (takes (addr_kept c.before.before.before.before.before.before.before.args.out) zero_addr zero_addr _ _ l.auto l.k l.i l.invariant h (sym c.before.stays.ensures ∙ w.0.taken)))
+    (λ w. rw (w.1, w.2) (passes (addr_kept c.before.before.before.before.before.before.before.args.out) zero_addr zero_addr _ _ l.auto l.k l.i l.invariant h (sym c.before.stays.ensures ∙ w.0.left)))
     c.if1.branch
 
 returns : tie.Need-returns invariant-loop decreases-loop
 returns c =
     let l = c.before.loop in
-    let e = taken-all (addrKept c.before.before.before.before.args.out) zeroAddr zeroAddr _ _ c.before.before.before.before.args.self.count l.auto l.k l.i l.invariant (omega arith) c.before.before.at_most.ensures in
+    let e = taken_all (addr_kept c.before.before.before.before.args.out) zero_addr zero_addr _ _ c.before.before.before.before.args.self.count l.auto l.k l.i l.invariant (omega arith) c.before.before.at_most.ensures in
     cc
 
 pub kept-spec : {M : Type 1} → statement M

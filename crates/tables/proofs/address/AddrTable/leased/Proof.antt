@@ -1,16 +1,16 @@
-use Rattle.tables.proofs.Leases.{address-gone, address-came}
-use Rattle.tables.proofs.Made.{addrs-rewritten}
-use Rattle.tables.specs.Applied.{appliedAddrs}
-use Rattle.choice.proofs.Choices.{if-true}
+use Rattle.tables.proofs.Leases.{address_gone, address_came}
+use Rattle.tables.proofs.Made.{addrs_rewritten}
+use Rattle.tables.specs.Applied.{applied_addrs}
+use Rattle.choice.proofs.Choices.{if_true}
 use Rattle.std.proofs.Common.{refl, rules}
-use Rattle.tables.specs.Tables.{addrIsManual, addrsOf}
+use Rattle.tables.specs.Tables.{addr_is_manual, addrs_of}
 use Rattle.tables.specs.Entries.{only}
 use Rattle.tables.proofs.address.AddrTable.leased.Statement.{statement}
 use Rattle.tables.proofs.address.AddrTable.leased.Tie as tie
 
 returns : tie.Need-returns
-unfolding appliedAddrs
-returns c = if-true _ c.if1.true refl
+unfolding applied_addrs
+returns c = if_true _ c.if1.true refl
 
 kept-requires : tie.Need-kept-requires
 kept-requires c κs = search rules
@@ -23,15 +23,15 @@ enum-known-new c = search rules
 
 with-requires : tie.Need-with-requires
 with-requires c κs =
-    addrs-rewritten _ (only addrIsManual (addrsOf c.before.before.before.before.before.args.self)) c.before.before.before.kept.ensures
+    addrs_rewritten _ (only addr_is_manual (addrs_of c.before.before.before.before.before.args.self)) c.before.before.before.kept.ensures
 
 returns-2 : tie.Need-returns-2
 returns-2 c =
-    address-gone c.before.before.before.before.args.self c.before.before.kept.result c.before.before.before.before.args.new c.before.before.before.before.args.same c.before.before.before.if1.false c.before.before.kept.ensures c.enum_told.given.1
+    address_gone c.before.before.before.before.args.self c.before.before.kept.result c.before.before.before.before.args.new c.before.before.before.before.args.same c.before.before.before.if1.false c.before.before.kept.ensures c.enum_told.given.1
 
 returns-3 : tie.Need-returns-3
 returns-3 c =
-    address-came c.before.before.before.before.before.before.args.self c.before.before.before.before.kept.result c.before.before.before.before.before.before.args.new c.before.before.before.before.before.before.args.same c.before.before.before.before.before.if1.false c.before.before.before.before.kept.ensures c.with.result _ _ c.before.before.new.given.1 c.with.ensures
+    address_came c.before.before.before.before.before.before.args.self c.before.before.before.before.kept.result c.before.before.before.before.before.before.args.new c.before.before.before.before.before.before.args.same c.before.before.before.before.before.if1.false c.before.before.before.before.kept.ensures c.with.result _ _ c.before.before.new.given.1 c.with.ensures
 
 pub leased-spec : {M : Type 1} → statement M
 leased-spec =

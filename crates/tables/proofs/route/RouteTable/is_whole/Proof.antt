@@ -1,8 +1,8 @@
-use Rattle.tables.proofs.Loops.{Sought, sets-out, goes_on, found, ended}
-use Rattle.tables.proofs.Lists.{all-takes, all-fails}
-use Rattle.tables.specs.Tables.{zeroRoute, wholeRoutes, routeFits}
+use Rattle.tables.proofs.Loops.{Sought, sets_out, goes_on, found, ended}
+use Rattle.tables.proofs.Lists.{all_takes, all_fails}
+use Rattle.tables.specs.Tables.{zero_route, whole_routes, route_fits}
 use Rattle.tables.specs.Entries.{all}
-use Rattle.choice.proofs.Choices.{if-true, if-false}
+use Rattle.choice.proofs.Choices.{if_true, if_false}
 use Rattle.std.proofs.Common.{◌≡◌, ◌-◌, length, sym, refl, arith, rules, le-leb}
 use lib.ListN.{length-map}
 use borrow.Author.Tests.{lt-leb}
@@ -10,7 +10,7 @@ use Rattle.tables.proofs.route.RouteTable.is_whole.Statement.{statement}
 use Rattle.tables.proofs.route.RouteTable.is_whole.Tie as tie
 
 abbrev invariant-loop : tie.invariant-loop
-invariant-loop entries n i₀ i = Sought (all routeFits) entries n i
+invariant-loop entries n i₀ i = Sought (all route_fits) entries n i
 
 abbrev decreases-loop : tie.decreases-loop
 decreases-loop entries n i₀ i = n - i
@@ -19,11 +19,11 @@ size : (c : tie.Start invariant-loop decreases-loop) → length c.args.self.entr
 size c = simp length-map at c.well-formed.0.1.1.0.1.0.1
 
 returns : tie.Need-returns invariant-loop decreases-loop
-unfolding wholeRoutes
-returns c = if-false _ (lt-leb _ _ c.if1.true) refl
+unfolding whole_routes
+returns c = if_false _ (lt-leb _ _ c.if1.true) refl
 
 loop-holds : tie.Need-loop-init invariant-loop decreases-loop
-loop-holds c = sets-out (all routeFits) zeroRoute _ _ (size c.before.before) c.if1.false
+loop-holds c = sets_out (all route_fits) zero_route _ _ (size c.before.before) c.if1.false
 
 mul-entry : tie.Need-overflow-mul-entry invariant-loop decreases-loop
 mul-entry c = search rules
@@ -32,9 +32,9 @@ array-copy-out-entry : tie.Need-array-copy-out-entry invariant-loop decreases-lo
 array-copy-out-entry c = search rules
 
 returns-2 : tie.Need-returns-2 invariant-loop decreases-loop
-unfolding wholeRoutes
+unfolding whole_routes
 returns-2 c =
-    if-true _ (le-leb _ _ c.before.before.before.before.before.if1.false) (sym (found (all routeFits) zeroRoute _ _ c.before.before.before.before.loop.i c.before.before.before.before.loop.invariant c.before.before.before.loop-test.true _ (λ xs. all-fails routeFits _ xs (lt-leb _ _ c.if2.true))))
+    if_true _ (le-leb _ _ c.before.before.before.before.before.if1.false) (sym (found (all route_fits) zero_route _ _ c.before.before.before.before.loop.i c.before.before.before.before.loop.invariant c.before.before.before.loop-test.true _ (λ xs. all_fails route_fits _ xs (lt-leb _ _ c.if2.true))))
 
 add-i : tie.Need-overflow-add-i invariant-loop decreases-loop
 add-i c = search rules
@@ -44,12 +44,12 @@ loop-less c = search rules
 
 loop-again : tie.Need-loop-preserved invariant-loop decreases-loop
 loop-again c =
-    goes_on (all routeFits) zeroRoute _ _ c.before.before.before.before.loop.i c.before.before.before.before.loop.invariant c.before.before.before.loop-test.true (λ xs. all-takes routeFits _ xs (le-leb _ _ c.if2.false))
+    goes_on (all route_fits) zero_route _ _ c.before.before.before.before.loop.i c.before.before.before.before.loop.invariant c.before.before.before.loop-test.true (λ xs. all_takes route_fits _ xs (le-leb _ _ c.if2.false))
 
 returns-3 : tie.Need-returns-3 invariant-loop decreases-loop
-unfolding wholeRoutes all
+unfolding whole_routes all
 returns-3 c =
-    if-true _ (le-leb _ _ c.before.before.if1.false) (sym (ended (all routeFits) zeroRoute _ _ c.before.loop.i c.before.loop.invariant (omega arith)))
+    if_true _ (le-leb _ _ c.before.before.if1.false) (sym (ended (all route_fits) zero_route _ _ c.before.loop.i c.before.loop.invariant (omega arith)))
 
 pub is-whole-spec : {M : Type 1} → statement M
 is-whole-spec =

@@ -1,4 +1,4 @@
-use Rattle.tables.proofs.Loops.{length-in-use}
+use Rattle.tables.proofs.Loops.{length_in_use}
 use Rattle.std.proofs.Common.{◌≡◌, length, rules}
 use lib.ListN.{length-map}
 use Rattle.tables.proofs.route.RouteTable.len.Statement.{statement}
@@ -12,7 +12,7 @@ at-most-requires c κs = search rules
 
 returns : tie.Need-returns
 returns c =
-    length-in-use c.at_most.result c.before.args.self.count c.before.args.self.entries (size c.before) c.at_most.ensures
+    length_in_use c.at_most.result c.before.args.self.count c.before.args.self.entries (size c.before) c.at_most.ensures
 
 pub len_spec : {M : Type 1} → statement M
 len_spec = tie.close (tie.spec at-most-requires returns)

@@ -1,5 +1,5 @@
-use Rattle.tables.specs.Lookups.{addrAt}
-use Rattle.choice.proofs.Choices.{if-true, if-false}
+use Rattle.tables.specs.Lookups.{addr_at}
+use Rattle.choice.proofs.Choices.{if_true, if_false}
 use Rattle.std.proofs.Common.{not, sym, refl, ap, ◌∙◌, rules}
 use Rattle.tables.proofs.tables.Tables.addr_at.Statement.{statement}
 use Rattle.tables.proofs.tables.Tables.addr_at.Tie as tie
@@ -8,15 +8,15 @@ is-whole-requires : tie.Need-is-whole-requires
 is-whole-requires c κs = search rules
 
 returns : tie.Need-returns
-unfolding addrAt
-returns c = if-true _ (ap not (sym c.before.is_whole.ensures) ∙ c.if1.true) refl
+unfolding addr_at
+returns c = if_true _ (ap not (sym c.before.is_whole.ensures) ∙ c.if1.true) refl
 
 at-requires : tie.Need-at-requires
 at-requires c κs = search rules
 
 returns-2 : tie.Need-returns-2
-unfolding addrAt
-returns-2 c = if-false _ (ap not (sym c.before.before.before.is_whole.ensures) ∙ c.before.before.if1.false) c.at.ensures
+unfolding addr_at
+returns-2 c = if_false _ (ap not (sym c.before.before.before.is_whole.ensures) ∙ c.before.before.if1.false) c.at.ensures
 
 pub addr-at-spec : {M : Type 1} → statement M
 addr-at-spec = tie.close (tie.spec is-whole-requires returns at-requires returns-2)

@@ -1,6 +1,6 @@
 use Rattle.tables.specs.declared.lookup.Count.TheVariants.{Entries}
-use Rattle.tables.specs.Lookups.{addrCount}
-use Rattle.choice.proofs.Choices.{if-true, if-false}
+use Rattle.tables.specs.Lookups.{addr_count}
+use Rattle.choice.proofs.Choices.{if_true, if_false}
 use Rattle.std.proofs.Common.{not, sym, refl, ap, ◌∙◌, rules}
 use Rattle.tables.proofs.tables.Tables.addr_count.Statement.{statement}
 use Rattle.tables.proofs.tables.Tables.addr_count.Tie as tie
@@ -9,16 +9,16 @@ is-whole-requires : tie.Need-is-whole-requires
 is-whole-requires c κs = search rules
 
 returns : tie.Need-returns
-unfolding addrCount
-returns c = if-true _ (ap not (sym c.before.is_whole.ensures) ∙ c.if1.true) refl
+unfolding addr_count
+returns c = if_true _ (ap not (sym c.before.is_whole.ensures) ∙ c.if1.true) refl
 
 len-requires : tie.Need-len-requires
 len-requires c κs = search rules
 
 returns-2 : tie.Need-returns-2
-unfolding addrCount
+unfolding addr_count
 returns-2 c =
-    if-false _ (ap not (sym c.before.before.before.is_whole.ensures) ∙ c.before.before.if1.false) (ap Entries c.len.ensures)
+    if_false _ (ap not (sym c.before.before.before.is_whole.ensures) ∙ c.before.before.if1.false) (ap Entries c.len.ensures)
 
 pub addr-count-spec : {M : Type 1} → statement M
 addr-count-spec = tie.close (tie.spec is-whole-requires returns len-requires returns-2)

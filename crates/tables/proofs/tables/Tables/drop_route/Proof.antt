@@ -1,5 +1,5 @@
-use Rattle.tables.specs.Manual.{dropRoute, changed}
-use Rattle.choice.proofs.Choices.{if-true, if-false}
+use Rattle.tables.specs.Manual.{drop_route, changed}
+use Rattle.choice.proofs.Choices.{if_true, if_false}
 use Rattle.std.proofs.Common.{not, sym, ap, ◌∙◌, rules}
 use Rattle.tables.proofs.tables.Tables.drop_route.Statement.{statement}
 use Rattle.tables.proofs.tables.Tables.drop_route.Tie as tie
@@ -11,8 +11,8 @@ refused-requires : tie.Need-refused-requires
 refused-requires c κs = search rules
 
 returns : tie.Need-returns
-unfolding dropRoute
-returns c = if-true _ (ap not (sym c.before.before.admits.ensures) ∙ c.before.if1.true) c.refused.ensures
+unfolding drop_route
+returns c = if_true _ (ap not (sym c.before.before.admits.ensures) ∙ c.before.if1.true) c.refused.ensures
 
 kept-requires : tie.Need-kept-requires
 kept-requires c κs = search rules
@@ -21,9 +21,9 @@ changed-requires : tie.Need-changed-requires
 changed-requires c κs = search rules
 
 returns-2 : tie.Need-returns-2
-unfolding dropRoute
+unfolding drop_route
 returns-2 c =
-    if-false _ (ap not (sym c.before.before.before.before.before.admits.ensures) ∙ c.before.before.before.before.if1.false) (c.changed.ensures ∙ ap (changed c.before.before.before.before.before.before.args.self c.before.before.before.before.before.before.args.self.ip_addrs) c.before.before.kept.ensures)
+    if_false _ (ap not (sym c.before.before.before.before.before.admits.ensures) ∙ c.before.before.before.before.if1.false) (c.changed.ensures ∙ ap (changed c.before.before.before.before.before.before.args.self c.before.before.before.before.before.before.args.self.ip_addrs) c.before.before.kept.ensures)
 
 pub drop-route-spec : {M : Type 1} → statement M
 drop-route-spec =

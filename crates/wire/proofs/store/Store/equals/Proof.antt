@@ -1,4 +1,4 @@
-use Rattle.octets.proofs.Runs.{take-most}
+use Rattle.octets.proofs.Runs.{take_most}
 use lib.Seq.{length-take-le}
 use lib.ListN.{length}
 use native.Mathlib.Omega.{arith}
@@ -36,8 +36,8 @@ same-requires c κs = search rules
 
 returns : tie.Need-returns
 returns c =
-    let a = take-most c.before.before.before.before.before.before.before.args.self.bytes c.before.before.before.before.before.before.before.args.self.len 256 (size c.before.before.before.before.before.before.before) in
-    let b = take-most c.before.before.before.before.before.before.before.args.other.bytes c.before.before.before.before.before.before.before.args.other.len 256 (size-other c.before.before.before.before.before.before.before) in
+    let a = take_most c.before.before.before.before.before.before.before.args.self.bytes c.before.before.before.before.before.before.before.args.self.len 256 (size c.before.before.before.before.before.before.before) in
+    let b = take_most c.before.before.before.before.before.before.before.args.other.bytes c.before.before.before.before.before.before.before.args.other.len 256 (size-other c.before.before.before.before.before.before.before) in
     c.same.ensures ∙ rw (c.before.before.before.before.at_most.ensures, c.before.before.before.at-most2.ensures, a, b)
 
 pub equals-spec : {M : Type 1} → statement M

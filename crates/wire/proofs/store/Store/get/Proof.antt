@@ -1,6 +1,6 @@
-use Rattle.wire.proofs.Stores.{whole-over, whole-within}
+use Rattle.wire.proofs.Stores.{whole_over, whole_within}
 use Rattle.wire.specs.Stored.{got}
-use Rattle.choice.proofs.Choices.{if-true, if-false}
+use Rattle.choice.proofs.Choices.{if_true, if_false}
 use lib.ListN.{length-take, length}
 use lib.Seq.{length-take-le}
 use borrow.Author.Tests.{not-true, not-false}
@@ -15,7 +15,7 @@ size c = search rules
 
 returns : tie.Need-returns
 unfolding got
-returns c = if-false _ (whole-over c.before.before.args.self c.if1.true) refl
+returns c = if_false _ (whole_over c.before.before.args.self c.if1.true) refl
 
 array-share-prefix-bytes : tie.Need-array-share-prefix-bytes
 array-share-prefix-bytes c = omega (arith, size c.before.before)
@@ -28,7 +28,7 @@ whole-items-requires c κs = search rules
 
 returns-2 : tie.Need-returns-2
 unfolding got
-returns-2 c = if-false _ (whole-within c.before.before.before.before.before.args.self c.before.before.before.if1.false ∙ sym c.before.whole-items.ensures ∙ not-true _ c.if2.true) refl
+returns-2 c = if_false _ (whole_within c.before.before.before.before.before.args.self c.before.before.before.if1.false ∙ sym c.before.whole-items.ensures ∙ not-true _ c.if2.true) refl
 
 array-share-prefix-bytes-2 : tie.Need-array-share-prefix-bytes-2
 array-share-prefix-bytes-2 c = omega (arith, size c.before.before.before.before.before)
@@ -41,7 +41,7 @@ find-in-requires c κs = simp length-take (omega arith)
 
 returns-3 : tie.Need-returns-3
 unfolding got
-returns-3 c = if-true _ (whole-within c.before.before.before.before.before.before.before.args.self c.before.before.before.before.before.if1.false ∙ sym c.before.before.before.whole-items.ensures ∙ not-false _ c.before.before.if2.false) c.find-in.ensures
+returns-3 c = if_true _ (whole_within c.before.before.before.before.before.before.before.args.self c.before.before.before.before.before.if1.false ∙ sym c.before.before.before.whole-items.ensures ∙ not-false _ c.before.before.if2.false) c.find-in.ensures
 
 pub get_spec : {M : Type 1} → statement M
 get_spec =

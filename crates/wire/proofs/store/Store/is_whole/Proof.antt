@@ -1,5 +1,5 @@
-use Rattle.wire.specs.Stored.{wholeStore}
-use Rattle.choice.proofs.Choices.{if-true, if-false}
+use Rattle.wire.specs.Stored.{whole_store}
+use Rattle.choice.proofs.Choices.{if_true, if_false}
 use lib.Seq.{length-take-le}
 use borrow.Author.Tests.{le-leb, lt-leb}
 use lib.ListN.{length}
@@ -13,8 +13,8 @@ size : (c : tie.Start) → length c.args.self.bytes ≡ 256
 size c = search rules
 
 returns : tie.Need-returns
-unfolding wholeStore
-returns c = if-false _ (lt-leb _ _ c.if1.true) refl
+unfolding whole_store
+returns c = if_false _ (lt-leb _ _ c.if1.true) refl
 
 array-share-prefix-bytes : tie.Need-array-share-prefix-bytes
 array-share-prefix-bytes c = omega (arith, size c.before.before)
@@ -26,8 +26,8 @@ whole-items-requires : tie.Need-whole-items-requires
 whole-items-requires c κs = search rules
 
 returns-2 : tie.Need-returns-2
-unfolding wholeStore
-returns-2 c = if-true _ (le-leb _ _ c.before.before.if1.false) c.whole-items.ensures
+unfolding whole_store
+returns-2 c = if_true _ (le-leb _ _ c.before.before.if1.false) c.whole-items.ensures
 
 pub is-whole-spec : {M : Type 1} → statement M
 is-whole-spec =

@@ -1,7 +1,7 @@
 use Rattle.wire.proofs.Stores.{Put, put_in, all_more, all_end}
 use Rattle.wire.proofs.Walks.{from, moved, lies, from_past}
 use Rattle.wire.specs.declared.options.Item.TheVariants.{Pad, End, Whole}
-use Rattle.wire.specs.Stored.{store_of, allPushed, pushed}
+use Rattle.wire.specs.Stored.{store_of, all_pushed, pushed}
 use Rattle.wire.specs.declared.store.Store.{Store}
 use lib.ListN.{length, take, drop}
 use mathlib.Core.Path.{◌≡◌, refl, sym, ap, ◌∙◌}
@@ -12,7 +12,7 @@ use Rattle.wire.proofs.store.Store.of_reply.Statement.{statement}
 use Rattle.wire.proofs.store.Store.of_reply.Tie as tie
 
 abbrev invariant-loop : tie.invariant-loop
-invariant-loop reply bytes₀ used₀ at₀ bytes used at = (length bytes ≡ 256) × (used ≤ 256) × (store_of reply ≡ allPushed (record { bytes = bytes; len = used }) (from reply at))
+invariant-loop reply bytes₀ used₀ at₀ bytes used at = (length bytes ≡ 256) × (used ≤ 256) × (store_of reply ≡ all_pushed (record { bytes = bytes; len = used }) (from reply at))
 
 abbrev decreases-loop : tie.decreases-loop
 decreases-loop reply bytes₀ used₀ at₀ bytes used at = length reply - at
@@ -76,7 +76,7 @@ loop-again c =
     let kept : left ≡ pushed store k (take n (drop (at + 2) s)) = (written c).kept ∙ rw size in (
       (written c).size,
       (written c).within,
-      c.before.before.before.before.before.before.before.before.before.loop.invariant.2 ∙ ap (allPushed store) (moved s at c.before.before.before.before.before.before.before.read-item.result (Whole k n) c.before.before.before.before.before.before.before.read-item.ensures c.before.before.before.before.before.code.given.1) ∙ all_more store (record { code = k; body = take n (drop (at + 2) s) }) (from s (at + 2 + n)) ∙ ap (λ st. allPushed st (from s (at + 2 + n))) (sym kept),
+      c.before.before.before.before.before.before.before.before.before.loop.invariant.2 ∙ ap (all_pushed store) (moved s at c.before.before.before.before.before.before.before.read-item.result (Whole k n) c.before.before.before.before.before.before.before.read-item.ensures c.before.before.before.before.before.code.given.1) ∙ all_more store (record { code = k; body = take n (drop (at + 2) s) }) (from s (at + 2 + n)) ∙ ap (λ st. all_pushed st (from s (at + 2 + n))) (sym kept),
     )
 
 enum_told : tie.Need-enum-told invariant-loop decreases-loop
@@ -92,17 +92,17 @@ loop-again-2 : tie.Need-loop-preserved-2 invariant-loop decreases-loop
 loop-again-2 c = (
   c.before.before.before.before.loop.invariant.0,
   c.before.before.before.before.loop.invariant.1,
-  c.before.before.before.before.loop.invariant.2 ∙ ap (allPushed (record { bytes = c.before.before.before.before.loop.bytes; len = c.before.before.before.before.loop.used })) (moved c.before.before.before.before.before.before.args.reply.now c.before.before.before.before.loop.at c.before.before.read-item.result Pad c.before.before.read-item.ensures c.enum_told.given.1),
+  c.before.before.before.before.loop.invariant.2 ∙ ap (all_pushed (record { bytes = c.before.before.before.before.loop.bytes; len = c.before.before.before.before.loop.used })) (moved c.before.before.before.before.before.before.args.reply.now c.before.before.before.before.loop.at c.before.before.read-item.result Pad c.before.before.read-item.ensures c.enum_told.given.1),
 )
 
 enum-told-2 : tie.Need-enum-told-2 invariant-loop decreases-loop
 enum-told-2 c = search rules
 
 returns : tie.Need-returns invariant-loop decreases-loop
-returns c = sym (c.before.before.before.before.loop.invariant.2 ∙ ap (allPushed (record { bytes = c.before.before.before.before.loop.bytes; len = c.before.before.before.before.loop.used })) (moved c.before.before.before.before.before.before.args.reply.now c.before.before.before.before.loop.at c.before.before.read-item.result End c.before.before.read-item.ensures c.enum-told2.given.1) ∙ all_end (record { bytes = c.before.before.before.before.loop.bytes; len = c.before.before.before.before.loop.used }))
+returns c = sym (c.before.before.before.before.loop.invariant.2 ∙ ap (all_pushed (record { bytes = c.before.before.before.before.loop.bytes; len = c.before.before.before.before.loop.used })) (moved c.before.before.before.before.before.before.args.reply.now c.before.before.before.before.loop.at c.before.before.read-item.result End c.before.before.read-item.ensures c.enum-told2.given.1) ∙ all_end (record { bytes = c.before.before.before.before.loop.bytes; len = c.before.before.before.before.loop.used }))
 
 returns-2 : tie.Need-returns-2 invariant-loop decreases-loop
-returns-2 c = sym (c.before.loop.invariant.2 ∙ ap (allPushed (record { bytes = c.before.loop.bytes; len = c.before.loop.used })) (from_past c.before.before.before.args.reply.now c.before.loop.at c.loop-test.false) ∙ all_end (record { bytes = c.before.loop.bytes; len = c.before.loop.used }))
+returns-2 c = sym (c.before.loop.invariant.2 ∙ ap (all_pushed (record { bytes = c.before.loop.bytes; len = c.before.loop.used })) (from_past c.before.before.before.args.reply.now c.before.loop.at c.loop-test.false) ∙ all_end (record { bytes = c.before.loop.bytes; len = c.before.loop.used }))
 
 pub of-reply-spec : {M : Type 1} → statement M
 of-reply-spec =
