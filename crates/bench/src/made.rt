@@ -12,7 +12,7 @@ const SEED: u64 = 20260401;
 // When a case's calls are made, but for up to 7 ms and the step of a poll.
 pub const MOMENT: Instant = Instant { millis: 4000000000 };
 
-#[derive(Drop)]
+#[derive(Clone, Copy)]
 pub struct Post {
     pub client: Client,
     pub tables: Tables,

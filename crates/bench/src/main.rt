@@ -5,6 +5,8 @@
 // A case names its call, the stage that a fresh post is brought to through calls, and how often the call is made, each time on
 // that same post, at moments that differ by up to 7 ms. The generator goes on from turn to turn.
 
+#![tactic(auto)]
+
 mod calls;
 mod cases;
 mod made;

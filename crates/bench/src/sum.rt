@@ -7,7 +7,7 @@ use octets::word::read_u16;
 use std::num::wrapping_add_u32;
 use tables::Outcome;
 
-#[derive(Drop)]
+#[derive(Clone, Copy)]
 pub struct Sum {
     a: u32,
     b: u32,

@@ -10,14 +10,14 @@ use settings::Settings;
 use tables::Outcome;
 
 // Where the client is with its servers: what calls change most.
-#[derive(Drop)]
+#[derive(Clone, Copy)]
 pub struct Session {
     pub state: ClientState,
     // Of the last message that was sent.
     pub transaction_id: u32,
 }
 
-#[derive(Drop)]
+#[derive(Clone, Copy)]
 pub struct Client {
     pub settings: Settings,
     // NAKs are passed over: for sites where a server sends them astray. RFC 2131 has no such thing.
@@ -28,7 +28,7 @@ pub struct Client {
 }
 
 // A client, or the number of the refusal, and then the client is all zero.
-#[derive(Drop)]
+#[derive(Clone, Copy)]
 pub struct Created {
     pub client: Client,
     pub outcome: Outcome,

@@ -4,6 +4,8 @@
 // Any client, tables, generator, reply, moment and buffer have an answer: a result, or a number of document 01, and then
 // nothing has changed.
 
+#![tactic(auto)]
+
 pub mod client;
 pub mod lookup;
 pub mod poll;

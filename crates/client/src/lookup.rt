@@ -9,14 +9,14 @@ use tables::Has;
 use wire::Got;
 
 // The lease, if one is held; all zero where none is, or the look-up is refused.
-#[derive(Drop)]
+#[derive(Clone, Copy)]
 pub struct Leased {
     pub lease: DhcpLease,
     pub held: Has,
 }
 
 // The state, with its deadlines.
-#[derive(Drop)]
+#[derive(Clone, Copy)]
 pub enum Standing {
     In(ClientState),
     Refused(u32),

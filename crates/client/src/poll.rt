@@ -13,7 +13,7 @@ use message::{Answer, Endpoints};
 use tables::Tables;
 
 // What was built, if anything was, and when the next poll is wanted.
-#[derive(Drop)]
+#[derive(Clone, Copy)]
 pub struct PollAnswer {
     // the datagram's octets, and where it goes from and to; all 0 where none was built
     pub length: usize,
@@ -24,14 +24,14 @@ pub struct PollAnswer {
     pub purge: bool,
 }
 
-#[derive(Drop)]
+#[derive(Clone, Copy)]
 pub enum PollOutcome {
     Answered(PollAnswer),
     Refused(u32),
 }
 
 // The client, its tables and the generator after a poll; as they came where it is refused.
-#[derive(Drop)]
+#[derive(Clone, Copy)]
 pub struct Polled {
     pub client: Client,
     pub tables: Tables,
@@ -40,7 +40,7 @@ pub struct Polled {
 }
 
 // What a poll changes: whether the lease goes, the client's session after it, the generator and the answer.
-#[derive(Drop)]
+#[derive(Clone, Copy)]
 pub(crate) struct PollChange {
     pub drops: bool,
     pub session: Session,

@@ -12,7 +12,7 @@ use tables::Tables;
 
 // What became of a reply: it was taken, and whether link state is to be purged; it was passed over by a number from 20 to
 // 30; or the call was refused.
-#[derive(Drop)]
+#[derive(Clone, Copy)]
 pub enum ReplyOutcome {
     Taken { purge: bool },
     PassedOver(u32),
@@ -20,7 +20,7 @@ pub enum ReplyOutcome {
 }
 
 // The client and its tables after a reply; as they came where it is not taken.
-#[derive(Drop)]
+#[derive(Clone, Copy)]
 pub struct Processed {
     pub client: Client,
     pub tables: Tables,

@@ -9,14 +9,14 @@ use machine::ClientState;
 use tables::Tables;
 
 // Whether link state is to be purged, or the number of the refusal.
-#[derive(Drop)]
+#[derive(Clone, Copy)]
 pub enum ResetOutcome {
     Done { purge: bool },
     Refused(u32),
 }
 
 // The client and its tables after a reset; as they came where it is refused.
-#[derive(Drop)]
+#[derive(Clone, Copy)]
 pub struct WasReset {
     pub client: Client,
     pub tables: Tables,
@@ -24,7 +24,7 @@ pub struct WasReset {
 }
 
 // A client and its tables after a change, and whether link state is to be purged.
-#[derive(Drop)]
+#[derive(Clone, Copy)]
 pub(crate) struct Settled {
     pub client: Client,
     pub tables: Tables,

@@ -13,7 +13,7 @@ const MAX_POLL_DELAY: Duration = Duration {
     millis: 24 * 60 * 60 * 1000,
 };
 
-#[derive(Drop)]
+#[derive(Clone, Copy)]
 pub struct Clock {
     // The poll's own moment.
     pub now: Instant,
@@ -22,14 +22,14 @@ pub struct Clock {
 }
 
 // Whether a deadline has come, and the clock after the question.
-#[derive(Drop)]
+#[derive(Clone, Copy)]
 pub struct Expired {
     pub expired: bool,
     pub clock: Clock,
 }
 
 // A deadline that was set, and the clock after it.
-#[derive(Drop)]
+#[derive(Clone, Copy)]
 pub struct TimerSet {
     pub deadline: Instant,
     pub clock: Clock,

@@ -5,14 +5,14 @@ ghost use Rattle.clock.specs.Durations.{longest, clamp, seconds, duration, none_
 
 use crate::product::product;
 
-#[derive(Drop)]
+#[derive(Clone, Copy)]
 pub struct Duration {
     // At most 2^30 in what the constructors give. The operations take any value, and read it as it is.
     pub millis: u32,
 }
 
 // What a checked operation gives: the Rust's Option<Duration>.
-#[derive(Drop)]
+#[derive(Clone, Copy)]
 pub enum MaybeDuration {
     None,
     Some(Duration),

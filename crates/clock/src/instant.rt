@@ -8,7 +8,7 @@ ghost use Rattle.clock.specs.Moments.{wrap, plus, gap, before, due, rest, earlie
 use crate::duration::{Duration, MaybeDuration};
 use crate::product::WORD;
 
-#[derive(Drop)]
+#[derive(Clone, Copy)]
 pub struct Instant {
     pub millis: u32,
 }

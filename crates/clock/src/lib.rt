@@ -4,6 +4,8 @@
 // No function of this crate refuses anything: every u16, u32 and u64 is a legal argument, and so is every value of
 // a struct, also one that no constructor gives, as a Duration above Duration::MAX.
 
+#![tactic(auto)]
+
 pub mod clock;
 pub mod duration;
 pub mod instant;

@@ -8,19 +8,19 @@ const MULTIPLIER: u64 = 0xbb2efcec3c39611d;
 
 const INCREMENT: u64 = 0x7590ef39;
 
-#[derive(Drop)]
+#[derive(Clone, Copy)]
 pub struct Rand {
     pub state: u64,
 }
 
 // A number drawn, and the generator after it.
-#[derive(Drop)]
+#[derive(Clone, Copy)]
 pub struct Drawn32 {
     pub rand: Rand,
     pub value: u32,
 }
 
-#[derive(Drop)]
+#[derive(Clone, Copy)]
 pub struct Drawn16 {
     pub rand: Rand,
     pub value: u16,

@@ -4,7 +4,7 @@ ghost use Rattle.clock.specs.Waits.{standard_waits};
 
 use crate::duration::Duration;
 
-#[derive(Drop)]
+#[derive(Clone, Copy)]
 pub struct Waits {
     // From one Discover to the next.
     pub discover_timeout: Duration,

@@ -6,7 +6,7 @@ use machine::ClientState;
 use octets::codes::{ACK, NAK, OFFER};
 
 // What a reply is to the state it meets.
-#[derive(Drop)]
+#[derive(Clone, Copy)]
 pub enum Awaited {
     Offer,
     Ack,

@@ -9,7 +9,7 @@ use octets::codes::{OPT_SERVER_IDENTIFIER, OPT_SUBNET_MASK};
 use wire::Checked;
 
 // What of a client decides on a reply.
-#[derive(Drop)]
+#[derive(Clone, Copy)]
 pub struct Recipient {
     pub hardware: [u8; 6],
     pub id: u32,
@@ -18,20 +18,20 @@ pub struct Recipient {
 }
 
 // An address that a server offers or leases, and who it is.
-#[derive(Drop)]
+#[derive(Clone, Copy)]
 pub struct Offered {
     pub server: DhcpServerInfo,
     pub address: u32,
 }
 
-#[derive(Drop)]
+#[derive(Clone, Copy)]
 pub struct Acked {
     pub server: DhcpServerInfo,
     pub address: u32,
     pub prefix: u8,
 }
 
-#[derive(Drop)]
+#[derive(Clone, Copy)]
 pub enum Verdict {
     Offer(Offered),
     Ack(Acked),

@@ -1,6 +1,8 @@
 // Judging a reply: any bytes, from any source, are taken as an OFFER, an ACK or a NAK, or passed over by a number from 20 to 30.
 // Ports the checks of dhcpv4_process in iface/dhcpv4.rs.
 
+#![tactic(auto)]
+
 pub mod awaited;
 pub mod judge;
 

@@ -9,7 +9,7 @@ use octets::number::at_most;
 use tables::{Installed, MaybeCidr, PREFIX_LIMIT};
 use wire::{Addresses, Store};
 
-#[derive(Drop)]
+#[derive(Clone, Copy)]
 pub struct DhcpLease {
     // Who leased the address: as the OFFER had it.
     pub server: DhcpServerInfo,

@@ -9,7 +9,7 @@ use crate::times::half;
 use clock::{Clock, Duration, Instant, Waits};
 
 // A message that a poll sends, with the state that follows it.
-#[derive(Drop)]
+#[derive(Clone, Copy)]
 pub enum Sending {
     // A Discover: a lease that is held is dropped first.
     Discover(DiscoverState),
@@ -19,14 +19,14 @@ pub enum Sending {
     Renew(RenewState),
 }
 
-#[derive(Drop)]
+#[derive(Clone, Copy)]
 pub enum Due {
     Nothing,
     Send(Sending),
 }
 
 // What is due at a moment, and when the next poll is wanted.
-#[derive(Drop)]
+#[derive(Clone, Copy)]
 pub struct Decision {
     pub due: Due,
     pub wake: Instant,

@@ -3,6 +3,8 @@
 //
 // No function of this crate refuses anything: every value of its types has an answer, also one that no reply gives.
 
+#![tactic(auto)]
+
 pub mod decide;
 pub mod state;
 pub mod times;

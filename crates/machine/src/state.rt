@@ -6,7 +6,7 @@ use crate::times::Times;
 use clock::{Duration, Instant};
 
 // How to reach a server.
-#[derive(Drop)]
+#[derive(Clone, Copy)]
 pub struct DhcpServerInfo {
     // Where its messages come from, and renewals go to.
     pub address: u32,
@@ -14,14 +14,14 @@ pub struct DhcpServerInfo {
     pub identifier: u32,
 }
 
-#[derive(Drop)]
+#[derive(Clone, Copy)]
 pub struct DiscoverState {
     // When to send the next Discover.
     pub retry_at: Instant,
 }
 
 // A message that is sent again until it is answered.
-#[derive(Drop)]
+#[derive(Clone, Copy)]
 pub struct Tries {
     // When to send it next.
     pub retry_at: Instant,
@@ -29,7 +29,7 @@ pub struct Tries {
     pub retry: u16,
 }
 
-#[derive(Drop)]
+#[derive(Clone, Copy)]
 pub struct RequestState {
     pub tries: Tries,
     // Whom the address is requested from.
@@ -38,7 +38,7 @@ pub struct RequestState {
 }
 
 // The timers of a lease, which stands beside the state.
-#[derive(Drop)]
+#[derive(Clone, Copy)]
 pub struct RenewState {
     // From here on the server is asked to renew the lease.
     pub renew_at: Instant,
@@ -50,7 +50,7 @@ pub struct RenewState {
     pub rebinding: bool,
 }
 
-#[derive(Drop)]
+#[derive(Clone, Copy)]
 pub enum ClientState {
     // Starting over: a Discover is due at the next poll.
     Init,

@@ -10,7 +10,7 @@ use octets::MaybeNumber;
 const DEFAULT_LEASE_DURATION: Duration = Duration { millis: 120000 };
 
 // The row of document 01's table that a lease falls under, with the times that it is given there.
-#[derive(Drop)]
+#[derive(Clone, Copy)]
 pub enum Row {
     // T1 < T2 < L
     Both { renew: Duration, rebind: Duration },
@@ -23,7 +23,7 @@ pub enum Row {
 }
 
 // How long after the ACK a lease is renewed and rebound.
-#[derive(Drop)]
+#[derive(Clone, Copy)]
 pub struct Times {
     pub renew: Duration,
     pub rebind: Duration,

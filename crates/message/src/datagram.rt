@@ -11,7 +11,7 @@ use crate::put::put_bytes;
 use crate::sum::checksum;
 
 // Where a datagram comes from and where it goes to.
-#[derive(Drop)]
+#[derive(Clone, Copy)]
 pub struct Endpoints {
     pub source: u32,
     pub destination: u32,

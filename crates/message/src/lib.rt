@@ -3,6 +3,8 @@
 //
 // Any fields, lists and buffer have an answer: a length, or the number of a refusal, and then nothing is written.
 
+#![tactic(auto)]
+
 pub mod datagram;
 mod header;
 pub mod message;

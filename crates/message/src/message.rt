@@ -11,7 +11,7 @@ use octets::MaybeNumber;
 use octets::codes::{OPT_MAX_DHCP_MESSAGE_SIZE, OPT_REQUESTED_IP, OPT_SERVER_IDENTIFIER};
 
 // A message's fields but for the lists. A number that is missing leaves its option out, and so does a no at asks.
-#[derive(Drop)]
+#[derive(Clone, Copy)]
 pub struct Message {
     // option messageTypeCode
     pub kind: u8,
@@ -28,7 +28,7 @@ pub struct Message {
 }
 
 // How long, or the number of the refusal.
-#[derive(Drop)]
+#[derive(Clone, Copy)]
 pub enum Answer {
     Length(usize),
     Refused(u32),

@@ -4,6 +4,8 @@
 //
 // No function of this crate refuses anything: any slice, place and number has an answer.
 
+#![tactic(auto)]
+
 pub mod address;
 pub mod codes;
 pub mod item;

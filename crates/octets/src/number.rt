@@ -2,7 +2,7 @@
 ghost use Rattle.std.specs.Prelude.{◌≡◌, min};
 
 // A number that may be missing.
-#[derive(Drop)]
+#[derive(Clone, Copy)]
 pub enum MaybeNumber {
     None,
     Some(u32),

@@ -1,6 +1,9 @@
 // The Rattle side of the comparison: calls on standard input, an answer to each on standard output (docs/TRACE.md), made by the
 // calls of `client` and `tables`. A record that is malformed is said on standard error, and nothing more is read. Answers are handed
 // on whenever no call waits, so that a live driver can wait for them.
+
+#![tactic(auto)]
+
 ghost use Rattle.std.specs.Prelude.{◌≡◌, length};
 
 mod calls;

@@ -7,7 +7,7 @@ use sheet::rows::put_line;
 use trace::{after_line, line_at};
 
 // How many octets of text are there, how many lines were read, how many octets of answers wait in `out`, and whether it goes on.
-#[derive(Drop)]
+#[derive(Clone, Copy)]
 pub struct Progress {
     pub have: usize,
     pub lines: u64,
@@ -64,7 +64,7 @@ fn turn(
 }
 
 // What is there after a read: all octets, those of whole lines, and whether there was more.
-#[derive(Drop)]
+#[derive(Clone, Copy)]
 struct Fetched {
     all: usize,
     end: usize,

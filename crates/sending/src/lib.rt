@@ -3,6 +3,8 @@
 //
 // Any settings, lease, id, generator and buffer have an answer, whole or not.
 
+#![tactic(auto)]
+
 pub mod sending;
 
 pub use sending::{drawn, endpoints, write};

@@ -3,6 +3,8 @@
 //
 // Any settings have an answer, within their limits or not.
 
+#![tactic(auto)]
+
 pub mod settings;
 
 pub use settings::{Medium, Settings};

@@ -12,7 +12,7 @@ use octets::MaybeNumber;
 use octets::codes::{OPT_DOMAIN_NAME_SERVER, OPT_ROUTER, OPT_SUBNET_MASK};
 use octets::span::up_to;
 
-#[derive(Drop)]
+#[derive(Clone, Copy)]
 pub enum Medium {
     Ethernet,
     Ip,
@@ -20,7 +20,7 @@ pub enum Medium {
 }
 
 // Of each array the first so many octets count, and nothing behind a no is read.
-#[derive(Drop)]
+#[derive(Clone, Copy)]
 pub struct Settings {
     pub medium: Medium,
     pub mtu: u16,

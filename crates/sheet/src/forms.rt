@@ -76,7 +76,7 @@ const COUNT: usize = 32;
 // A line by its form: which one, its values, and whether it fits; `column` is where it departs from it. Values are the low 32
 // bits of each, with the form once more at FORM; but for settings, the high bits of the first two are at HIGH. Octets give two
 // values, the place of their first digit and how many they are.
-#[derive(Drop)]
+#[derive(Clone, Copy)]
 pub struct Filled {
     pub form: usize,
     pub values: [u32; 16],

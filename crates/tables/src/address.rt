@@ -11,7 +11,7 @@ use crate::tables::{PLACES, PREFIX_LIMIT};
 use octets::number::at_most;
 
 // An address of the interface; dhcp tells one that DHCP entered from one put in by hand.
-#[derive(Drop)]
+#[derive(Clone, Copy)]
 pub struct IfaceAddr {
     pub address: u32,
     pub prefix: u8,
@@ -19,14 +19,14 @@ pub struct IfaceAddr {
 }
 
 // The first count entries are in use.
-#[derive(Drop)]
+#[derive(Clone, Copy)]
 pub struct AddrTable {
     pub entries: [IfaceAddr; 4],
     pub count: usize,
 }
 
 // Which entries a change takes out: none, DHCP's, or those put in by hand with an address and prefix.
-#[derive(Drop)]
+#[derive(Clone, Copy)]
 pub(crate) enum AddrsOut {
     Nothing,
     Dhcp,

@@ -8,21 +8,21 @@ use crate::tables::Tables;
 use octets::MaybeNumber;
 
 // An address with its prefix, or that there is none.
-#[derive(Drop)]
+#[derive(Clone, Copy)]
 pub enum MaybeCidr {
     Absent,
     Cidr { address: u32, prefix: u8 },
 }
 
 // What a lease puts into the tables: without a lease, neither.
-#[derive(Drop)]
+#[derive(Clone, Copy)]
 pub struct Installed {
     pub address: MaybeCidr,
     pub router: MaybeNumber,
 }
 
 // The tables after it, and whether link state is to be purged.
-#[derive(Drop)]
+#[derive(Clone, Copy)]
 pub struct Applied {
     pub tables: Tables,
     pub purge: bool,

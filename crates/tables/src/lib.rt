@@ -4,6 +4,8 @@
 //
 // Tables go into each call by value and come out of it. Any tables have an answer; nothing is read past a count.
 
+#![tactic(auto)]
+
 mod address;
 mod apply;
 mod lookup;

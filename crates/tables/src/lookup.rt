@@ -7,21 +7,21 @@ use crate::route::Route;
 use crate::tables::Tables;
 
 // How many, or the number of the refusal.
-#[derive(Drop)]
+#[derive(Clone, Copy)]
 pub enum Count {
     Entries(usize),
     Refused(u32),
 }
 
 // An entry, or that there is none, or the number of the refusal.
-#[derive(Drop)]
+#[derive(Clone, Copy)]
 pub enum AddrAt {
     Absent,
     Entry(IfaceAddr),
     Refused(u32),
 }
 
-#[derive(Drop)]
+#[derive(Clone, Copy)]
 pub enum RouteAt {
     Absent,
     Entry(Route),
@@ -29,7 +29,7 @@ pub enum RouteAt {
 }
 
 // Whether it is there, or the number of the refusal.
-#[derive(Drop)]
+#[derive(Clone, Copy)]
 pub enum Has {
     No,
     Yes,

@@ -8,7 +8,7 @@ use crate::route::{Route, RouteTable, RoutesOut};
 use crate::tables::{PLACES, PREFIX_LIMIT, Tables};
 
 // The tables as they are then; as they came where the call was refused.
-#[derive(Drop)]
+#[derive(Clone, Copy)]
 pub struct Changed {
     pub tables: Tables,
     pub outcome: Outcome,

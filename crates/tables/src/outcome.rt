@@ -1,5 +1,5 @@
 // What became of a manual call or of a client's creation, or the number of the refusal.
-#[derive(Drop)]
+#[derive(Clone, Copy)]
 pub enum Outcome {
     Done,
     Refused(u32),

@@ -11,7 +11,7 @@ use crate::tables::{PLACES, PREFIX_LIMIT};
 use octets::number::at_most;
 
 // A route; dhcp tells one that DHCP entered from one put in by hand.
-#[derive(Drop)]
+#[derive(Clone, Copy)]
 pub struct Route {
     pub network: u32,
     pub prefix: u8,
@@ -20,14 +20,14 @@ pub struct Route {
 }
 
 // The first count entries are in use.
-#[derive(Drop)]
+#[derive(Clone, Copy)]
 pub struct RouteTable {
     pub entries: [Route; 4],
     pub count: usize,
 }
 
 // Which entries a change takes out: none, DHCP's, or those put in by hand with a network, prefix and router.
-#[derive(Drop)]
+#[derive(Clone, Copy)]
 pub(crate) enum RoutesOut {
     Nothing,
     Dhcp,

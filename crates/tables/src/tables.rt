@@ -11,7 +11,7 @@ pub(crate) const PLACES: usize = 4;
 // Bits of an address.
 pub const PREFIX_LIMIT: u8 = 32;
 
-#[derive(Drop)]
+#[derive(Clone, Copy)]
 pub struct Tables {
     pub ip_addrs: AddrTable,
     pub routes: RouteTable,

@@ -7,7 +7,7 @@ use crate::line::starts;
 use crate::number::{Number, address, decimal};
 
 // The largest number of a gap.
-#[derive(Drop)]
+#[derive(Clone, Copy)]
 pub(crate) enum Limit {
     Unknown,
     Most(u64),
@@ -15,7 +15,7 @@ pub(crate) enum Limit {
 
 // What a part of a form takes of a text: nothing, with the number of characters before the fault; one character; a
 // value, with the number of characters that it takes; or so many octets, of two characters each.
-#[derive(Drop)]
+#[derive(Clone, Copy)]
 pub(crate) enum Taken {
     Stopped(usize),
     Letter,

@@ -4,6 +4,8 @@
 // Reading is strict: a line that departs from its form by one character does not fit it. Any text, form and place has
 // an answer.
 
+#![tactic(auto)]
+
 mod digit;
 mod gap;
 mod line;

@@ -7,7 +7,7 @@ use crate::line::starts;
 
 // What reading a number gives: its value and how many characters it takes, or how many characters stand before the
 // fault.
-#[derive(Drop)]
+#[derive(Clone, Copy)]
 pub(crate) enum Number {
     Stopped(usize),
     Read { value: u64, len: usize },

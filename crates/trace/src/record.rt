@@ -9,7 +9,7 @@ const MOST_VALUES: usize = 16;
 
 // What was read of a line: its values in order, zeros after them, and how many they are. `column` is the line's length,
 // or the place at which the line departs from its form; then there are no values.
-#[derive(Drop)]
+#[derive(Clone, Copy)]
 pub struct Record {
     pub values: [u64; MOST_VALUES],
     pub count: usize,

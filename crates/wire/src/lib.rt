@@ -4,6 +4,8 @@
 // Any bytes and any store have an answer. Whoever reads an option asks by its code: where in the reply it lies is known
 // in this crate alone.
 
+#![tactic(auto)]
+
 mod options;
 pub mod reply;
 pub mod store;

@@ -8,7 +8,7 @@ use octets::codes::{OPT_END, OPT_PAD};
 pub(crate) const OPTIONS: usize = 240;
 
 // What stands at a place of the options field.
-#[derive(Drop)]
+#[derive(Clone, Copy)]
 pub(crate) enum Item {
     Pad,
     End,
@@ -16,7 +16,7 @@ pub(crate) enum Item {
 }
 
 // Where the data of an option lies.
-#[derive(Drop)]
+#[derive(Clone, Copy)]
 pub(crate) enum Found {
     Nothing,
     At { start: usize, len: usize },

@@ -12,21 +12,21 @@ use octets::codes::{OPT_DHCP_MESSAGE_TYPE, OPT_ROUTER};
 const REPLY_START: [u8; 3] = [2, 1, 6];
 
 // Whether a reply passes a check, or is passed over, and under which number.
-#[derive(Drop)]
+#[derive(Clone, Copy)]
 pub enum Checked {
     Passes,
     PassedOver(u32),
 }
 
 // The length of an option's data.
-#[derive(Drop)]
+#[derive(Clone, Copy)]
 pub enum Length {
     Absent,
     Octets(usize),
 }
 
 // At most three addresses, zeros after them.
-#[derive(Drop)]
+#[derive(Clone, Copy)]
 pub struct Addresses {
     pub list: [u32; 3],
     pub count: usize,

@@ -8,14 +8,14 @@ use octets::number::at_most;
 // Octets that a store has room for.
 const CAPACITY: usize = 256;
 
-#[derive(Drop)]
+#[derive(Clone, Copy)]
 pub struct Store {
     pub bytes: [u8; 256],
     pub len: usize,
 }
 
 // Where an option's data lies in a store, or that there is none, or the number of the refusal.
-#[derive(Drop)]
+#[derive(Clone, Copy)]
 pub enum Got {
     Absent,
     At { place: usize, len: usize },

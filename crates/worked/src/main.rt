@@ -1,5 +1,8 @@
 // Document 01's worked examples that are not marked ★, and published vectors, run and printed. The figures in the file
 // stdout are the papers', or worked out in a comment here.
+
+#![tactic(auto)]
+
 use libc::STDOUT_FILENO;
 use octets::MaybeNumber;
 

@@ -1,6 +1,8 @@
 // Document 01's examples of an ACK's times, by every row of the table of T1 and T2, of what its lease is made of, and of
 // look-ups.
 
+#![tactic(auto)]
+
 mod leases;
 mod lookups;
 mod made;

@@ -16,7 +16,7 @@ const IDENTIFIER: u32 = 0x0a000001;
 pub const POST: u32 = 0x0a000032;
 
 // What settings differ in. Extra options begin with a kind, a length and 65.
-#[derive(Drop)]
+#[derive(Clone, Copy)]
 pub struct Given {
     pub medium: u8,
     pub mtu: u16,
@@ -81,7 +81,7 @@ pub fn settings(given: Given) -> Settings {
 }
 
 // Where a call meets the client: in Requesting, after so many Requests; in Renewing, since a plain ACK at 0.
-#[derive(Drop)]
+#[derive(Clone, Copy)]
 pub enum At {
     Init,
     Discovering,

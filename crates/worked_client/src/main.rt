@@ -1,5 +1,7 @@
 // Document 01's examples of creation and of number 9, each with its neighbours, and the order of creation's checks.
 
+#![tactic(auto)]
+
 mod broken;
 mod calls;
 mod creation;

@@ -16,7 +16,7 @@ const IDENTIFIER: u32 = 0x0a000001;
 const OFFERED: u32 = 0x0a000032;
 
 // What calls change: of the client all but its settings, and the tables.
-#[derive(Drop)]
+#[derive(Clone, Copy)]
 pub struct Post {
     pub state: ClientState,
     pub lease: DhcpLease,

@@ -1,6 +1,8 @@
 // What a record of calls cannot set or show: look-ups of the client, what stands behind a no, places that are not in use, and
 // a draw from a generator that is lent. All other corners are records, in oracle/corners.
 
+#![tactic(auto)]
+
 mod generator;
 mod lookups;
 mod made;

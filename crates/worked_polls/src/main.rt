@@ -4,6 +4,8 @@
 // as it stands then. A line that begins with # says what is to be seen and, where a figure stands in no paper, how it is
 // worked out.
 
+#![tactic(auto)]
+
 mod calls;
 mod made;
 mod numbers;

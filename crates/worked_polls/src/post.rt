@@ -4,7 +4,7 @@ use clock::{Duration, Instant, Rand};
 use machine::ClientState;
 use tables::Tables;
 
-#[derive(Drop)]
+#[derive(Clone, Copy)]
 pub struct Post {
     pub client: Client,
     pub tables: Tables,

@@ -34,7 +34,7 @@ fn settings() -> Settings {
 }
 
 // Where a reply meets the client: in Renewing, since a plain ACK at 0.
-#[derive(Drop)]
+#[derive(Clone, Copy)]
 pub enum At {
     Init,
     Discovering,

@@ -1,5 +1,7 @@
 // Document 01's examples of replies that are passed over, and the order of the checks.
 
+#![tactic(auto)]
+
 mod made;
 mod passed_over;
 mod print;

@@ -2,7 +2,7 @@
 use client::PollAnswer;
 use octets::word::split4;
 
-#[derive(Drop)]
+#[derive(Clone, Copy)]
 pub struct Digest {
     a: u32,
     b: u32,

@@ -10,7 +10,7 @@ const SEED: u64 = 20260401;
 pub const FIRST_MOMENT: Instant = Instant { millis: 4000000000 };
 
 // Client, tables and generator; the moment is the season's.
-#[derive(Drop)]
+#[derive(Clone, Copy)]
 pub struct Post {
     pub client: Client,
     pub tables: Tables,

@@ -6,6 +6,8 @@
 // gets an OFFER, any other Request an ACK. A reply comes after 20 + k % 7 ms, with a poll right behind it. Without one the
 // next poll is at the waking moment. The season ends before the first call that would come later than its last day.
 
+#![tactic(auto)]
+
 mod digest;
 mod made;
 mod print;

@@ -11,7 +11,7 @@ use std::num::{wrapping_add_u64, wrapping_sub_u32};
 
 // Beside the post: the next call is a poll, or the reply of this type to what was heard, so many milliseconds after the last,
 // which was made now.
-#[derive(Drop)]
+#[derive(Clone, Copy)]
 pub struct Season {
     now: Instant,
     // milliseconds from creation to the last call
@@ -30,7 +30,7 @@ pub struct Season {
 }
 
 // The post after a call, and the season with what it came to.
-#[derive(Drop)]
+#[derive(Clone, Copy)]
 struct Turn {
     post: Post,
     season: Season,

@@ -24,7 +24,7 @@ pub const NAK: u32 = octets::codes::NAK as u32;
 const HOUR: u64 = 3600000;
 
 // What a reply takes from the message.
-#[derive(Drop)]
+#[derive(Clone, Copy)]
 pub struct Heard {
     pub kind: u32,
     pub id: u32,
@@ -109,7 +109,7 @@ pub fn delay(number: u32) -> u32 {
 }
 
 // A reply, and how long it is.
-#[derive(Drop)]
+#[derive(Clone, Copy)]
 pub struct Reply {
     pub octets: [u8; 278],
     pub len: usize,

@@ -2,7 +2,7 @@
 use crate::server::{ACK, DISCOVER, OFFER, REQUEST};
 use client::PollAnswer;
 
-#[derive(Drop)]
+#[derive(Clone, Copy)]
 pub struct Tally {
     pub month: [u32; 11],
     pub whole: [u32; 11],

@@ -1,4 +1,7 @@
 // Document 01's examples of the tables and the manual calls, and corners of order, loss, generation and purging.
+
+#![tactic(auto)]
+
 use crate::made::{
     POST, ROUTER, entry, four_addresses, four_routes, lease, no_lease, with_addresses,
 };

@@ -1,0 +1,6 @@
+use Rattle.clock.proofs.Products.{wrapped_by_halves}
+use Rattle.std.proofs.Common.{rules}
+use Rattle.clock.proofs.product.wrapping_mul_u64.Goals as goal
+
+pub returns : goal.returns
+returns c = cc (wrapped_by_halves c.args.a c.args.b)

@@ -1,0 +1,7 @@
+use Rattle.clock.specs.Generator.{drawn32}
+use Rattle.std.proofs.Common.{rules}
+use Rattle.clock.proofs.rand.Rand.rand_u32.Goals as goal
+
+pub returns : goal.returns
+unfolding drawn32
+returns c = cc

@@ -1,0 +1,11 @@
+use mathlib.Core.Path.{◌≡◌, refl, sym, ◌∙◌}
+use lib.ListN.{length}
+use Rattle.octets.specs.Runs.{same_bytes}
+use Rattle.octets.proofs.Runs.{same_short, same_other, same_more, same_end, part_tail}
+use Rattle.octets.proofs.span.same.Given as goal
+
+abbrev pub invariant-loop-x : goal.invariant-loop-x
+invariant-loop-x l = same_bytes l.a l.b ≡ same_bytes l.x l.y
+
+abbrev pub decreases-loop-x : goal.decreases-loop-x
+decreases-loop-x l = length l.x

@@ -1,0 +1,11 @@
+use mathlib.Core.Path.{sym}
+use native.Mathlib.Omega.{arith}
+use lib.Seq.{take_all, length-take-le}
+use Rattle.std.proofs.Common.{rules}
+use Rattle.octets.proofs.span.up_to.Goals as goal
+
+pub returns-then-s-n : goal.returns-then-s-n
+returns-then-s-n c = sym (take_all c.args.n c.args.s.now (omega arith))
+
+pub slice_bounds-result-end : goal.slice_bounds-result-end
+slice_bounds-result-end c = sym (length-take-le _ _ (search rules))
