@@ -1,0 +1,14 @@
+use Rattle.wire.proofs.Walks.{from, moved, lies, from_past, first_here, first_later, first_none}
+use Rattle.wire.specs.declared.options.Item.TheVariants.{Pad, End, Whole}
+use Rattle.wire.specs.Options.{first_with, option_data}
+use lib.ListN.{length, take, drop}
+use mathlib.Core.Path.{◌≡◌, refl, sym, ap, ◌∙◌}
+use Prim.Native.Nat.{◌+◌, ◌-◌, ◌≤◌}
+use native.Mathlib.Omega.{arith}
+use Rattle.wire.proofs.options.find.Given as goal
+
+abbrev pub invariant-loop-at : goal.invariant-loop-at
+invariant-loop-at l = option_data l.code l.reply ≡ first_with l.code (from l.reply l.at)
+
+abbrev pub decreases-loop-at : goal.decreases-loop-at
+decreases-loop-at l = length l.reply - l.at

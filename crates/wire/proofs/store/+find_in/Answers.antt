@@ -1,0 +1,35 @@
+use native.Mathlib.Omega.{arith}
+use mathlib.Core.Path.{sym, ◌∙◌}
+use lib.ListN.{length, length-take, length-drop}
+use Rattle.octets.proofs.Runs.{part_tail}
+use Rattle.wire.proofs.Stores.{place_none, place_here, place_later, place_cut}
+use Prim.Native.Nat.{ℕ, ◌<◌}
+use Rattle.wire.proofs.store.+find_in.{statement}
+use Rattle.wire.proofs.store.+find_in.Goals as goal
+
+abbrev μ-find-in : Measures 1 find-in-kinds.ps ℕ
+μ-find-in κs a = length a.0.now
+
+abbrev find-in-at : ℕ → In 1 find-in-kinds.ps
+find-in-at t = and 1 find-in-kinds.ps (is 1 find-in-kinds.ps μ-find-in t) find-in.Pre
+
+abbrev find-in-below : ℕ → In 1 find-in-kinds.ps
+find-in-below t = and 1 find-in-kinds.ps (falls 1 find-in-kinds.ps ◌<◌ μ-find-in t) find-in.Pre
+
+pub returns-then-s-lt2 : goal.returns-then-s-lt2
+returns-then-s-lt2 t c = sym (place_none c.args.kind c.args.base c.args.s.now c.if-s-lt2.true)
+
+pub returns-then-s-kind : goal.returns-then-s-kind
+returns-then-s-kind t c = sym (place_here c.args.kind c.args.base c.args.s.now (omega arith) c.if-s-kind.true)
+
+pub overflow_add-n : goal.overflow_add-n
+overflow_add-n t c = omega (arith, c.shared_slice_known-2-1.given 1)
+
+pub returns-then-s-n : goal.returns-then-s-n
+returns-then-s-n t c = sym (place_cut c.args.kind c.args.base c.args.s.now (omega arith) c.if-s-kind.false c.if-s-n.true)
+
+pub find_in-requires : goal.find_in-requires
+find_in-requires t c = simp (length-take, length-drop) (omega arith)
+
+pub returns : goal.returns
+returns t c = c.find_in.ensures ∙ rw part_tail (sym (place_later c.args.kind c.args.base c.args.s.now (omega arith) c.if-s-kind.false))
