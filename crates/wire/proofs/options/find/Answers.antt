@@ -5,6 +5,7 @@ use lib.ListN.{length, take, drop}
 use mathlib.Core.Path.{◌≡◌, refl, sym, ap, ◌∙◌}
 use Prim.Native.Nat.{◌+◌, ◌-◌, ◌≤◌}
 use native.Mathlib.Omega.{arith}
+use Rattle.wire.proofs.options.find.Goals.{Else-kind-code}
 use Rattle.wire.proofs.options.find.Goals as goal
 
 -- an option that was read lies within the reply

@@ -4,17 +4,7 @@ use lib.ListN.{length, length-take, length-drop}
 use Rattle.octets.proofs.Runs.{part_tail}
 use Rattle.wire.proofs.Stores.{place_none, place_here, place_later, place_cut}
 use Prim.Native.Nat.{ℕ, ◌<◌}
-use Rattle.wire.proofs.store.+find_in.{statement}
 use Rattle.wire.proofs.store.+find_in.Goals as goal
-
-abbrev μ-find-in : Measures 1 find-in-kinds.ps ℕ
-μ-find-in κs a = length a.0.now
-
-abbrev find-in-at : ℕ → In 1 find-in-kinds.ps
-find-in-at t = and 1 find-in-kinds.ps (is 1 find-in-kinds.ps μ-find-in t) find-in.Pre
-
-abbrev find-in-below : ℕ → In 1 find-in-kinds.ps
-find-in-below t = and 1 find-in-kinds.ps (falls 1 find-in-kinds.ps ◌<◌ μ-find-in t) find-in.Pre
 
 pub returns-then-s-lt2 : goal.returns-then-s-lt2
 returns-then-s-lt2 t c = sym (place_none c.args.kind c.args.base c.args.s.now c.if-s-lt2.true)

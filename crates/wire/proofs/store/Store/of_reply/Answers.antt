@@ -7,6 +7,7 @@ use lib.ListN.{length, take, drop}
 use mathlib.Core.Path.{◌≡◌, refl, sym, ap, ◌∙◌}
 use Prim.Native.Nat.{◌+◌, ◌-◌, ◌≤◌}
 use native.Mathlib.Omega.{arith}
+use Rattle.wire.proofs.store.Store.of_reply.Goals.{In-Whole, After-bytes-in-Whole-1}
 use Rattle.wire.proofs.store.Store.of_reply.Goals as goal
 
 -- an option that was read lies within the reply
