@@ -1,7 +1,7 @@
 -- Laws of the walk over the options of a reply. Assumes nothing.
 use Prim.Native.Nat.{ℕ, zero, suc, ◌+◌, ◌-◌, ◌≤◌, ◌<◌}
 use mathlib.Core.Bool.{Bool, true, false}
-use mathlib.Core.Path.{◌≡◌, refl, sym, ap, subst, ◌∙◌}
+use mathlib.Core.Path.{◌≡◌, refl, sym, ap, ◌∙◌}
 use mathlib.Core.List.{List, [], ◌∷◌, ◌++◌}
 use mathlib.Core.Option.{none, some}
 use native.Mathlib.Omega.{arith}
@@ -13,12 +13,11 @@ use lib.Dec.{eqb, ltb}
 use borrow.Author.Tests.{ltb-true, lt-ltb, eq-eqb, ne_eqb}
 use Rattle.choice.specs.Choice.{if◌then◌else◌}
 use Rattle.octets.specs.Items.{option}
-use Rattle.wire.specs.Options.{DhcpOption, head_item, options_from, first_with, option_data, data_at, Finds}
+use Rattle.wire.specs.Options.{DhcpOption, head_item, options_from, first_with, option_data, Finds}
 use Rattle.wire.specs.Readings.{length_of}
 use Rattle.wire.specs.declared.reply.Length.TheVariants.{Octets}
 use Rattle.wire.specs.declared.options.Item.{Item}
 use Rattle.wire.specs.declared.options.Item.TheVariants.{Pad, End, Whole}
-use Rattle.wire.specs.declared.options.Found.{Found}
 use Rattle.wire.specs.declared.options.Found.TheVariants.{Nothing, At}
 
 -- octets of the option before are passed over

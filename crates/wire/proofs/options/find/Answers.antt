@@ -1,16 +1,11 @@
 use Rattle.wire.proofs.Walks.{from, moved, lies, from_past, first_here, first_later, first_none}
 use Rattle.wire.specs.declared.options.Item.TheVariants.{Pad, End, Whole}
-use Rattle.wire.specs.Options.{first_with, option_data}
-use lib.ListN.{length, take, drop}
-use mathlib.Core.Path.{◌≡◌, refl, sym, ap, ◌∙◌}
-use Prim.Native.Nat.{◌+◌, ◌-◌, ◌≤◌}
+use Rattle.wire.specs.Options.{first_with}
+use lib.ListN.{take, drop}
+use mathlib.Core.Path.{sym, ap, ◌∙◌}
+use Prim.Native.Nat.{◌+◌}
 use native.Mathlib.Omega.{arith}
-use Rattle.wire.proofs.options.find.Goals.{Else-kind-code}
 use Rattle.wire.proofs.options.find.Goals as goal
-
--- an option that was read lies within the reply
-inside : (c : Else-kind-code) → c.loop-at.at + 2 + c.in-Whole.len ≤ length c.args.reply.now
-inside c = lies c.args.reply.now c.loop-at.at (Whole c.in-Whole.kind c.in-Whole.len) c.in-Whole.ensures c.loop-at-test.true
 
 pub returns-then-kind-code : goal.returns-then-kind-code
 returns-then-kind-code c = let s = c.args.reply.now in
@@ -24,13 +19,13 @@ returns-then-kind-code c = let s = c.args.reply.now in
     }
 
 pub overflow_add-at : goal.overflow_add-at
-overflow_add-at c = omega (arith, inside (goal.at.overflow_add-at c).Else-kind-code)
+overflow_add-at c = omega (arith, lies c.args.reply.now c.loop-at.at (Whole c.in-Whole.kind c.in-Whole.len) c.in-Whole.ensures c.loop-at-test.true)
 
 pub overflow_add-at-in-Whole : goal.overflow_add-at-in-Whole
-overflow_add-at-in-Whole c = omega (arith, inside (goal.at.overflow_add-at-in-Whole c).Else-kind-code)
+overflow_add-at-in-Whole c = omega (arith, lies c.args.reply.now c.loop-at.at (Whole c.in-Whole.kind c.in-Whole.len) c.in-Whole.ensures c.loop-at-test.true)
 
 pub loop-at-smaller-in-Whole : goal.loop-at-smaller-in-Whole
-loop-at-smaller-in-Whole c = omega (arith, inside (goal.at.loop-at-smaller-in-Whole c).Else-kind-code)
+loop-at-smaller-in-Whole c = omega (arith, lies c.args.reply.now c.loop-at.at (Whole c.in-Whole.kind c.in-Whole.len) c.in-Whole.ensures c.loop-at-test.true)
 
 pub loop-at-preserved-in-Whole : goal.loop-at-preserved-in-Whole
 loop-at-preserved-in-Whole c = let s = c.args.reply.now in
@@ -44,12 +39,12 @@ loop-at-preserved c = c.loop-at.invariant ∙ ap (first_with c.args.code) (moved
 
 pub returns-in-End : goal.returns-in-End
 returns-in-End c = record {
-      holds = sym (c.loop-at.invariant ∙ ap (first_with c.args.code) (moved c.args.reply.now c.loop-at.at End c.in-End.ensures) ∙ first_none c.args.code);
-      inside = tt;
-    }
+  holds = sym (c.loop-at.invariant ∙ ap (first_with c.args.code) (moved c.args.reply.now c.loop-at.at End c.in-End.ensures) ∙ first_none c.args.code);
+  inside = tt;
+}
 
 pub returns : goal.returns
 returns c = record {
-      holds = sym (c.loop-at.invariant ∙ ap (first_with c.args.code) (from_past c.args.reply.now c.loop-at.at c.loop-at-test.false) ∙ first_none c.args.code);
-      inside = tt;
-    }
+  holds = sym (c.loop-at.invariant ∙ ap (first_with c.args.code) (from_past c.args.reply.now c.loop-at.at c.loop-at-test.false) ∙ first_none c.args.code);
+  inside = tt;
+}

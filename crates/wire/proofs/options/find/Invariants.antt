@@ -1,10 +1,8 @@
-use Rattle.wire.proofs.Walks.{from, moved, lies, from_past, first_here, first_later, first_none}
-use Rattle.wire.specs.declared.options.Item.TheVariants.{Pad, End, Whole}
+use Rattle.wire.proofs.Walks.{from}
 use Rattle.wire.specs.Options.{first_with, option_data}
-use lib.ListN.{length, take, drop}
-use mathlib.Core.Path.{◌≡◌, refl, sym, ap, ◌∙◌}
-use Prim.Native.Nat.{◌+◌, ◌-◌, ◌≤◌}
-use native.Mathlib.Omega.{arith}
+use lib.ListN.{length}
+use mathlib.Core.Path.{◌≡◌}
+use Prim.Native.Nat.{◌-◌}
 use Rattle.wire.proofs.options.find.Given as goal
 
 abbrev pub invariant-loop-at : goal.invariant-loop-at

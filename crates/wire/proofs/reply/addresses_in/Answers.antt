@@ -1,6 +1,5 @@
-use Rattle.wire.proofs.Lists.{Gathered, gathered_none, gathered_more, gathered_all}
+use Rattle.wire.proofs.Lists.{gathered_none, gathered_more, gathered_all}
 use Rattle.octets.proofs.Runs.{part_tail}
-use lib.ListN.{length}
 use Rattle.wire.proofs.reply.addresses_in.Goals as goal
 
 pub loop-t-init : goal.loop-t-init

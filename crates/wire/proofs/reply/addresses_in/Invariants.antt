@@ -1,5 +1,4 @@
-use Rattle.wire.proofs.Lists.{Gathered, gathered_none, gathered_more, gathered_all}
-use Rattle.octets.proofs.Runs.{part_tail}
+use Rattle.wire.proofs.Lists.{Gathered}
 use lib.ListN.{length}
 use Rattle.wire.proofs.reply.addresses_in.Given as goal
 

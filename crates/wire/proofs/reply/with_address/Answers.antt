@@ -2,7 +2,6 @@ use Rattle.wire.proofs.Lists.{three_full, three_more, ones_kept, ones_left}
 use Rattle.wire.specs.declared.reply.Addresses.{Addresses}
 use Rattle.wire.specs.Readings.{first_three, unicast_ones}
 use lib.ListN.{set}
-use borrow.Author.Tests.{not-true, not-false}
 use Prim.Native.Nat.{ℕ, ◌+◌, ◌≤◌, ◌<◌}
 use mathlib.Core.List.{List, [], ◌∷◌, ◌++◌, append-nil}
 use mathlib.Core.Path.{◌≡◌, sym, ap, subst, ◌∙◌}

@@ -1,9 +1,8 @@
 use native.Mathlib.Omega.{arith}
 use mathlib.Core.Path.{sym, ◌∙◌}
-use lib.ListN.{length, length-take, length-drop}
+use lib.ListN.{length-take, length-drop}
 use Rattle.octets.proofs.Runs.{part_tail}
 use Rattle.wire.proofs.Stores.{place_none, place_here, place_later, place_cut}
-use Prim.Native.Nat.{ℕ, ◌<◌}
 use Rattle.wire.proofs.store.+find_in.Goals as goal
 
 pub returns-then-s-lt2 : goal.returns-then-s-lt2
@@ -13,7 +12,7 @@ pub returns-then-s-kind : goal.returns-then-s-kind
 returns-then-s-kind t c = sym (place_here c.args.kind c.args.base c.args.s.now (omega arith) c.if-s-kind.true)
 
 pub overflow_add-n : goal.overflow_add-n
-overflow_add-n t c = omega (arith, c.shared_slice_known-2-1.given 1)
+overflow_add-n t c = omega (arith, c.type_inv.s 1)
 
 pub returns-then-s-n : goal.returns-then-s-n
 returns-then-s-n t c = sym (place_cut c.args.kind c.args.base c.args.s.now (omega arith) c.if-s-kind.false c.if-s-n.true)

@@ -3,7 +3,6 @@ use Rattle.wire.specs.Stored.{got}
 use Rattle.choice.proofs.Choices.{if_true, if_false}
 use lib.ListN.{length-take, length}
 use lib.Seq.{length-take-le}
-use borrow.Author.Tests.{not-true, not-false}
 use native.Mathlib.Omega.{arith}
 use mathlib.Core.Path.{◌≡◌, refl, sym, ◌∙◌}
 use Rattle.wire.proofs.store.Store.get.Goals.{Start}

@@ -1,43 +1,34 @@
-use Rattle.wire.proofs.Stores.{Put, put_in, all_more, all_end}
+use Rattle.wire.proofs.Stores.{put_in, all_more, all_end}
 use Rattle.wire.proofs.Walks.{from, moved, lies, from_past}
 use Rattle.wire.specs.declared.options.Item.TheVariants.{Pad, End, Whole}
-use Rattle.wire.specs.Stored.{store_of, all_pushed, pushed}
+use Rattle.wire.specs.Stored.{all_pushed, pushed}
 use Rattle.wire.specs.declared.store.Store.{Store}
-use lib.ListN.{length, take, drop}
+use lib.ListN.{take, drop}
 use mathlib.Core.Path.{◌≡◌, refl, sym, ap, ◌∙◌}
-use Prim.Native.Nat.{◌+◌, ◌-◌, ◌≤◌}
+use Prim.Native.Nat.{◌+◌, ◌-◌}
 use native.Mathlib.Omega.{arith}
-use Rattle.wire.proofs.store.Store.of_reply.Goals.{In-Whole, After-bytes-in-Whole-1}
 use Rattle.wire.proofs.store.Store.of_reply.Goals as goal
-
--- an option that was read lies within the reply
-inside : (c : In-Whole) → c.loop-at.at + 2 + c.in-Whole.len ≤ length c.args.reply.now
-inside c = lies c.args.reply.now c.loop-at.at (Whole c.in-Whole.code c.in-Whole.len) c.in-Whole.ensures c.loop-at-test.true
-
--- and is written behind those before it, or left out
-abbrev Written : After-bytes-in-Whole-1 → Type 0
-Written c = Put (record { bytes = c.loop-at.bytes; len = c.loop-at.used }) c.in-Whole.code (take (c.loop-at.at + 2 + c.in-Whole.len - (c.loop-at.at + 2)) (drop (c.loop-at.at + 2) c.args.reply.now)) c.put_option_at-used.result c.put_option_at-used.new.buf
-
-written : (c : After-bytes-in-Whole-1) → Written c
-written c = put_in _ _ _ _ _ c.loop-at.invariant.0 c.loop-at.invariant.1 c.put_option_at-used.ensures.0 c.put_option_at-used.ensures.1
 
 pub loop-at-init : goal.loop-at-init
 loop-at-init c = (refl, omega arith, refl)
 
 pub overflow_add-start : goal.overflow_add-start
-overflow_add-start c = omega (arith, inside (goal.at.overflow_add-start c).In-Whole)
+overflow_add-start c = omega (arith, lies c.args.reply.now c.loop-at.at (Whole c.in-Whole.code c.in-Whole.len) c.in-Whole.ensures c.loop-at-test.true)
 
 pub overflow_add-end : goal.overflow_add-end
-overflow_add-end c = omega (arith, inside (goal.at.overflow_add-end c).In-Whole)
+overflow_add-end c = omega (arith, lies c.args.reply.now c.loop-at.at (Whole c.in-Whole.code c.in-Whole.len) c.in-Whole.ensures c.loop-at-test.true)
 
 pub slice_bounds-put_option_at-end-in-Whole : goal.slice_bounds-put_option_at-end-in-Whole
-slice_bounds-put_option_at-end-in-Whole c = omega (arith, inside (goal.at.slice_bounds-put_option_at-end-in-Whole c).In-Whole)
+slice_bounds-put_option_at-end-in-Whole c = omega (arith, lies c.args.reply.now c.loop-at.at (Whole c.in-Whole.code c.in-Whole.len) c.in-Whole.ensures c.loop-at-test.true)
 
 pub overflow_add-used : goal.overflow_add-used
-overflow_add-used c = omega (arith, (written (goal.at.overflow_add-used c).After-bytes-in-Whole-1).within)
+overflow_add-used c =
+    let store : Store = record { bytes = c.loop-at.bytes; len = c.loop-at.used } in
+    let w = put_in store _ _ _ _ c.loop-at.invariant.0 c.loop-at.invariant.1 c.put_option_at-used.ensures.0 c.put_option_at-used.ensures.1 in
+    omega (arith, w.within)
 
 pub loop-at-smaller-in-Whole : goal.loop-at-smaller-in-Whole
-loop-at-smaller-in-Whole c = omega (arith, inside (goal.at.loop-at-smaller-in-Whole c).In-Whole)
+loop-at-smaller-in-Whole c = omega (arith, lies c.args.reply.now c.loop-at.at (Whole c.in-Whole.code c.in-Whole.len) c.in-Whole.ensures c.loop-at-test.true)
 
 pub loop-at-preserved-in-Whole : goal.loop-at-preserved-in-Whole
 loop-at-preserved-in-Whole c = let s = c.args.reply.now in
@@ -47,9 +38,10 @@ loop-at-preserved-in-Whole c = let s = c.args.reply.now in
     let store : Store = record { bytes = c.loop-at.bytes; len = c.loop-at.used } in
     let left : Store = record { bytes = c.put_option_at-used.new.buf; len = c.loop-at.used + c.put_option_at-used.result } in
     let size : at + 2 + n - (at + 2) ≡ n = omega arith in
-    let kept : left ≡ pushed store k (take n (drop (at + 2) s)) = (written (goal.at.loop-at-preserved-in-Whole c).After-bytes-in-Whole-1).kept ∙ rw size in (
-      (written (goal.at.loop-at-preserved-in-Whole c).After-bytes-in-Whole-1).size,
-      (written (goal.at.loop-at-preserved-in-Whole c).After-bytes-in-Whole-1).within,
+    let w = put_in store _ _ _ _ c.loop-at.invariant.0 c.loop-at.invariant.1 c.put_option_at-used.ensures.0 c.put_option_at-used.ensures.1 in
+    let kept : left ≡ pushed store k (take n (drop (at + 2) s)) = w.kept ∙ rw size in (
+      w.size,
+      w.within,
       c.loop-at.invariant.2 ∙ ap (all_pushed store) (moved s at (Whole k n) c.in-Whole.ensures) ∙ all_more store (record { code = k; body = take n (drop (at + 2) s) }) (from s (at + 2 + n)) ∙ ap (λ st. all_pushed st (from s (at + 2 + n))) (sym kept),
     )
 

@@ -1,12 +1,8 @@
-use Rattle.wire.proofs.Stores.{Put, put_in, all_more, all_end}
-use Rattle.wire.proofs.Walks.{from, moved, lies, from_past}
-use Rattle.wire.specs.declared.options.Item.TheVariants.{Pad, End, Whole}
-use Rattle.wire.specs.Stored.{store_of, all_pushed, pushed}
-use Rattle.wire.specs.declared.store.Store.{Store}
-use lib.ListN.{length, take, drop}
-use mathlib.Core.Path.{◌≡◌, refl, sym, ap, ◌∙◌}
-use Prim.Native.Nat.{◌+◌, ◌-◌, ◌≤◌}
-use native.Mathlib.Omega.{arith}
+use Rattle.wire.proofs.Walks.{from}
+use Rattle.wire.specs.Stored.{store_of, all_pushed}
+use lib.ListN.{length}
+use mathlib.Core.Path.{◌≡◌}
+use Prim.Native.Nat.{◌-◌, ◌≤◌}
 use Rattle.wire.proofs.store.Store.of_reply.Given as goal
 
 abbrev pub invariant-loop-at : goal.invariant-loop-at
