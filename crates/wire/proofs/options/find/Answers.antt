@@ -18,14 +18,8 @@ returns-then-kind-code c = let s = c.args.reply.now in
       inside = lies s at it c.in-Whole.ensures c.loop-at-test.true;
     }
 
-pub overflow_add-at : goal.overflow_add-at
-overflow_add-at c = omega (arith, lies c.args.reply.now c.loop-at.at (Whole c.in-Whole.kind c.in-Whole.len) c.in-Whole.ensures c.loop-at-test.true)
-
 pub overflow_add-at-in-Whole : goal.overflow_add-at-in-Whole
 overflow_add-at-in-Whole c = omega (arith, lies c.args.reply.now c.loop-at.at (Whole c.in-Whole.kind c.in-Whole.len) c.in-Whole.ensures c.loop-at-test.true)
-
-pub loop-at-smaller-in-Whole : goal.loop-at-smaller-in-Whole
-loop-at-smaller-in-Whole c = omega (arith, lies c.args.reply.now c.loop-at.at (Whole c.in-Whole.kind c.in-Whole.len) c.in-Whole.ensures c.loop-at-test.true)
 
 pub loop-at-preserved-in-Whole : goal.loop-at-preserved-in-Whole
 loop-at-preserved-in-Whole c = let s = c.args.reply.now in

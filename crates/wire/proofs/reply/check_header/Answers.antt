@@ -10,9 +10,6 @@ pub returns-then-reply-lt-OPTIONS : goal.returns-then-reply-lt-OPTIONS
 unfolding header_check
 returns-then-reply-lt-OPTIONS c = if_true _ (lt-ltb _ _ c.if-reply-lt-OPTIONS.true) refl
 
-pub slice_bounds-same-end : goal.slice_bounds-same-end
-slice_bounds-same-end c = simp length-take (omega arith)
-
 pub returns-then-not-same : goal.returns-then-not-same
 unfolding header_check
 returns-then-not-same c = if_false _ (le-ltb _ _ c.if-reply-lt-OPTIONS.false) (if_false _ (sym c.same.ensures ∙ c.if-not-same.true) refl)

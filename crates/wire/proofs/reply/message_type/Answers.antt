@@ -4,14 +4,5 @@ use mathlib.Core.Path.{ap, ◌∙◌}
 use native.Mathlib.Omega.{arith}
 use Rattle.wire.proofs.reply.message_type.Goals as goal
 
-pub overflow_add-end : goal.overflow_add-end
-overflow_add-end c = omega (arith, (found c.in-At.start c.in-At.len c.in-At.ensures).1)
-
-pub slice_bounds-type_in-end : goal.slice_bounds-type_in-end
-slice_bounds-type_in-end c = omega (arith, (found c.in-At.start c.in-At.len c.in-At.ensures).1)
-
 pub returns-in-At : goal.returns-in-At
 returns-in-At c = c.type_in.ensures ∙ ap type_of (found c.in-At.start c.in-At.len c.in-At.ensures).0
-
-pub returns-in-Nothing : goal.returns-in-Nothing
-returns-in-Nothing c = ap type_of (found_none c.in-Nothing.ensures)

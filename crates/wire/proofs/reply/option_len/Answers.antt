@@ -5,6 +5,3 @@ use Rattle.wire.proofs.reply.option_len.Goals as goal
 
 pub returns-in-At : goal.returns-in-At
 returns-in-At c = sym (found_length c.in-At.start c.in-At.len c.in-At.ensures)
-
-pub returns-in-Nothing : goal.returns-in-Nothing
-returns-in-Nothing c = ap length_of (found_none c.in-Nothing.ensures)

@@ -10,15 +10,6 @@ pub returns-then-len-ne4 : goal.returns-then-len-ne4
 returns-then-len-ne4 c = let e = found_size c.in-At.start c.in-At.len c.in-At.ensures in
     if_false _ (ne_eqb _ _ (λ q. c.if-len-ne4.true (sym e ∙ q))) refl ∙ ap seconds_of (found c.in-At.start c.in-At.len c.in-At.ensures).0
 
-pub overflow_add-end : goal.overflow_add-end
-overflow_add-end c = omega (arith, (found c.in-At.start c.in-At.len c.in-At.ensures).1)
-
-pub slice_bounds-read_u32-end : goal.slice_bounds-read_u32-end
-slice_bounds-read_u32-end c = omega (arith, (found c.in-At.start c.in-At.len c.in-At.ensures).1)
-
 pub returns-else-len-ne4 : goal.returns-else-len-ne4
 returns-else-len-ne4 c = let e = found_size c.in-At.start c.in-At.len c.in-At.ensures in
     if_true _ (eq-eqb _ _ (e ∙ c.if-len-ne4.false)) c.read_u32.ensures ∙ ap seconds_of (found c.in-At.start c.in-At.len c.in-At.ensures).0
-
-pub returns-in-Nothing : goal.returns-in-Nothing
-returns-in-Nothing c = ap seconds_of (found_none c.in-Nothing.ensures)

@@ -11,14 +11,8 @@ returns-then-s-lt2 t c = sym (place_none c.args.kind c.args.base c.args.s.now c.
 pub returns-then-s-kind : goal.returns-then-s-kind
 returns-then-s-kind t c = sym (place_here c.args.kind c.args.base c.args.s.now (omega arith) c.if-s-kind.true)
 
-pub overflow_add-n : goal.overflow_add-n
-overflow_add-n t c = omega (arith, c.type_inv.s 1)
-
 pub returns-then-s-n : goal.returns-then-s-n
 returns-then-s-n t c = sym (place_cut c.args.kind c.args.base c.args.s.now (omega arith) c.if-s-kind.false c.if-s-n.true)
-
-pub find_in-requires : goal.find_in-requires
-find_in-requires t c = simp (length-take, length-drop) (omega arith)
 
 pub returns : goal.returns
 returns t c = c.find_in.ensures ∙ rw part_tail (sym (place_later c.args.kind c.args.base c.args.s.now (omega arith) c.if-s-kind.false))

@@ -12,9 +12,6 @@ use Rattle.wire.proofs.store.Store.of_reply.Goals as goal
 pub loop-at-init : goal.loop-at-init
 loop-at-init c = (refl, omega arith, refl)
 
-pub overflow_add-start : goal.overflow_add-start
-overflow_add-start c = omega (arith, lies c.args.reply.now c.loop-at.at (Whole c.in-Whole.code c.in-Whole.len) c.in-Whole.ensures c.loop-at-test.true)
-
 pub overflow_add-end : goal.overflow_add-end
 overflow_add-end c = omega (arith, lies c.args.reply.now c.loop-at.at (Whole c.in-Whole.code c.in-Whole.len) c.in-Whole.ensures c.loop-at-test.true)
 
@@ -26,9 +23,6 @@ overflow_add-used c =
     let store : Store = record { bytes = c.loop-at.bytes; len = c.loop-at.used } in
     let w = put_in store _ _ _ _ c.loop-at.invariant.0 c.loop-at.invariant.1 c.put_option_at-used.ensures.0 c.put_option_at-used.ensures.1 in
     omega (arith, w.within)
-
-pub loop-at-smaller-in-Whole : goal.loop-at-smaller-in-Whole
-loop-at-smaller-in-Whole c = omega (arith, lies c.args.reply.now c.loop-at.at (Whole c.in-Whole.code c.in-Whole.len) c.in-Whole.ensures c.loop-at-test.true)
 
 pub loop-at-preserved-in-Whole : goal.loop-at-preserved-in-Whole
 loop-at-preserved-in-Whole c = let s = c.args.reply.now in
