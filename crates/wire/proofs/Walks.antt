@@ -11,10 +11,14 @@ use lib.ListN.{length, get_or, take, drop, length-append, length-take, length-dr
 use lib.Seq.{drop-cons, get_or-drop, drop-drop, take-append_seam, drop-append_seam}
 use lib.Dec.{eqb, ltb}
 use borrow.Author.Tests.{ltb-true, lt-ltb, eq-eqb, ne_eqb}
-use Rattle.choice.specs.Choice.{if◌then◌else◌}
+use Rattle.choice.specs.Choice.{when◌then◌else◌}
 use Rattle.octets.specs.Items.{option}
 use Rattle.wire.specs.Options.{DhcpOption, head_item, options_from, first_with, option_data, Finds}
-use Rattle.wire.specs.Readings.{length_of}
+use Rattle.wire.specs.Readings.{length_of, seconds_of}
+use Rattle.choice.proofs.Choices.{if_true, if_false}
+use Rattle.octets.specs.Words.{word32_at}
+use Rattle.octets.specs.declared.number.MaybeNumber.{MaybeNumber}
+use Rattle.octets.specs.declared.number.MaybeNumber.TheVariants.{None}
 use Rattle.wire.specs.declared.reply.Length.TheVariants.{Octets}
 use Rattle.wire.specs.declared.options.Item.{Item}
 use Rattle.wire.specs.declared.options.Item.TheVariants.{Pad, End, Whole}
@@ -59,7 +63,7 @@ moved s at it e = step_list s at (drop at s) (drop-drop 1 at s) ∙ ap (after s 
 
 -- what stands at a place within s, by its octets
 pub item_at : (s : List ℕ) (at : ℕ) → at < length s
-    → head_item (drop at s) ≡ (if eqb (get_or s at 0) 0 then Pad else if eqb (get_or s at 0) 255 then End else if ltb (get_or s (at + 1) 0) (length s - (at + 1)) then Whole (get_or s at 0) (get_or s (at + 1) 0) else End)
+    → head_item (drop at s) ≡ (when eqb (get_or s at 0) 0 then Pad else when eqb (get_or s at 0) 255 then End else when ltb (get_or s (at + 1) 0) (length s - (at + 1)) then Whole (get_or s at 0) (get_or s (at + 1) 0) else End)
 unfolding head_item
 item_at s at h = rw (drop-cons s at 0 h) (simp (get_or-drop, length-drop, add-zero, add-one))
 
@@ -74,8 +78,8 @@ Lies s at End = Unit {0}
 Lies s at (Whole code size) = at + 2 + size ≤ length s
 
 lies_of : (s : List ℕ) (at c n : ℕ) (p q t : Bool) → (t ≡ true → at + 2 + n ≤ length s)
-    → Lies s at (if p then Pad else if q then End else if t then Whole c n else End)
-unfolding if◌then◌else◌
+    → Lies s at (when p then Pad else when q then End else when t then Whole c n else End)
+unfolding when◌then◌else◌
 lies_of s at c n true q t f = tt
 lies_of s at c n false true t f = tt
 lies_of s at c n false false true f = f refl
@@ -92,11 +96,11 @@ from_past s at h = rw (drop_of_length-le s h)
 
 -- the first option with a code is this one, or one of those that follow
 pub first_here : (code c : ℕ) (body : List ℕ) (os : List DhcpOption) → c ≡ code → first_with code (record { code = c; body = body } ∷ os) ≡ some body
-unfolding first_with if◌then◌else◌
+unfolding first_with when◌then◌else◌
 first_here code c body os e = simp (eq-eqb _ _ e)
 
 pub first_later : (code c : ℕ) (body : List ℕ) (os : List DhcpOption) → (c ≡ code → ⊥) → first_with code (record { code = c; body = body } ∷ os) ≡ first_with code os
-unfolding first_with if◌then◌else◌
+unfolding first_with when◌then◌else◌
 first_later code c body os e = simp (ne_eqb _ _ e)
 
 pub first_none : (code : ℕ) → first_with code [] ≡ none
@@ -125,9 +129,18 @@ pub found_length : {reply : List ℕ} {code : ℕ} (start size : ℕ) → Finds 
     → length_of (option_data code reply) ≡ Octets size
 found_length start size f = ap length_of (sym (found start size f).0) ∙ ap Octets (found_size start size f)
 
+-- its seconds, by its length
+pub seconds_none : {reply : List ℕ} {code : ℕ} (start size : ℕ) → Finds reply code (At start size) → (size ≡ 4 → ⊥)
+    → None ≡ seconds_of (option_data code reply)
+seconds_none start size f h = if_false _ (ne_eqb _ _ (λ q. h (sym (found_size start size f) ∙ q))) refl ∙ ap seconds_of (found start size f).0
+
+pub seconds_some : {reply : List ℕ} {code : ℕ} (start size : ℕ) {r : MaybeNumber} → Finds reply code (At start size) → size ≡ 4
+    → r ≡ word32_at (take (start + size - start) (drop start reply)) 0 → r ≡ seconds_of (option_data code reply)
+seconds_some start size f h e = if_true _ (eq-eqb _ _ (found_size start size f ∙ h)) e ∙ ap seconds_of (found start size f).0
+
 -- ---- a field that begins with an option as a writer leaves it
 head_option : (k : ℕ) (d r : List ℕ) → (k ≡ 0 → ⊥) → (k ≡ 255 → ⊥) → head_item (option k d ++ r) ≡ Whole k (length d)
-unfolding head_item if◌then◌else◌
+unfolding head_item when◌then◌else◌
 head_option k d r h g =
     let e : length d < length (length d ∷ (d ++ r)) = omega (arith, length-append d r) in
     simp (ne_eqb k 0 h, ne_eqb k 255 g, lt-ltb (length d) (length (length d ∷ (d ++ r))) e)
