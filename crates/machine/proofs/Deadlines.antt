@@ -1,12 +1,12 @@
 -- What a question to a poll's clock comes to, what is due while a lease lasts, and a wait that is doubled. Assumes nothing.
-use Prim.Native.Nat.{ℕ, zero, suc, ◌*◌, ◌%◌, ◌^◌, ◌<◌, ◌≤◌}
+use Prim.Native.Nat.{ℕ, zero, suc, ◌*◌, ◌^◌, ◌≤◌}
 use mathlib.Core.Path.{◌≡◌, refl, ap, ◌∙◌}
 use mathlib.Core.Bool.{true, false, not}
 use mathlib.Core.List.{[], ◌∷◌}
 use native.Mathlib.Nat.{zero-mul, suc-mul, pow-le-pow_right}
 use native.Mathlib.Omega.{arith}
 use borrow.Author.Tests.{not-true}
-use Rattle.choice.specs.Choice.{if◌then◌else◌}
+use Rattle.choice.specs.Choice.{when◌then◌else◌}
 use Rattle.clock.specs.Clocks.{gathering, expired_at}
 use Rattle.clock.specs.Durations.{clamp}
 use Rattle.clock.specs.Moments.{due, earlier, moment}
@@ -28,7 +28,7 @@ module _ (k : Clock) (deadline : ℕ) {question : Expired} (asked : question ≡
 
   -- a deadline that has not come is gathered
   pub gathered : question.expired ≡ false → question.clock ≡ gathering k deadline
-  unfolding expired_at if◌then◌else◌
+  unfolding expired_at when◌then◌else◌
   gathered to_come = rw (asked, due_expired ∙ to_come) refl
 
 -- a Request of Renewing, and the clock that has gathered when the next is due
@@ -56,11 +56,6 @@ module _ (w : Waits) (s : RenewState) (k : Clock) (lasts : due s.expires_at.mill
 
 -- 30 doublings take any wait but zero to the longest duration
 module _ (first n : ℕ) where
-  pub few_doublings : n < 30 → clamp (first * (1 * 2 ^ n % 2 ^ 32)) ≡ clamp (first * 2 ^ n)
-  few_doublings h =
-      let fits : 2 ^ n ≤ 2 ^ 30 = pow-le-pow_right {n = 2} (omega arith) {j = 30} (omega arith) in
-      ap (λ (power : ℕ). clamp (first * power)) (omega arith)
-
   pub many_doublings : 30 ≤ n → clamp (first * 2 ^ 30) ≡ clamp (first * 2 ^ n)
   many_doublings h = by_first first (pow-le-pow_right {n = 2} (omega arith) h)
     where
