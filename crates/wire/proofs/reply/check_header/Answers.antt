@@ -1,7 +1,5 @@
 use Rattle.wire.specs.Readings.{header_check}
 use Rattle.choice.proofs.Choices.{if_true, if_false}
-use native.Mathlib.Omega.{arith}
-use lib.ListN.{length-take}
 use borrow.Author.Tests.{lt-ltb, le-ltb}
 use mathlib.Core.Path.{refl, sym, ◌∙◌}
 use Rattle.wire.proofs.reply.check_header.Goals as goal

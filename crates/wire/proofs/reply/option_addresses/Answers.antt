@@ -1,7 +1,6 @@
-use Rattle.wire.proofs.Walks.{found, found_none}
+use Rattle.wire.proofs.Walks.{found}
 use Rattle.wire.specs.Readings.{addresses_of}
 use mathlib.Core.Path.{ap, ◌∙◌}
-use native.Mathlib.Omega.{arith}
 use Rattle.wire.proofs.reply.option_addresses.Goals as goal
 
 pub returns-in-At : goal.returns-in-At

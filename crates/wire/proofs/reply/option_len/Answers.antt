@@ -1,6 +1,5 @@
-use Rattle.wire.proofs.Walks.{found_length, found_none}
-use Rattle.wire.specs.Readings.{length_of}
-use mathlib.Core.Path.{sym, ap}
+use Rattle.wire.proofs.Walks.{found_length}
+use mathlib.Core.Path.{sym}
 use Rattle.wire.proofs.reply.option_len.Goals as goal
 
 pub returns-in-At : goal.returns-in-At

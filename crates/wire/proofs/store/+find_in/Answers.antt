@@ -1,6 +1,5 @@
 use native.Mathlib.Omega.{arith}
 use mathlib.Core.Path.{sym, ◌∙◌}
-use lib.ListN.{length-take, length-drop}
 use Rattle.octets.proofs.Runs.{part_tail}
 use Rattle.wire.proofs.Stores.{place_none, place_here, place_later, place_cut}
 use Rattle.wire.proofs.store.+find_in.Goals as goal

@@ -1,9 +1,7 @@
 use Rattle.wire.proofs.Stores.{whole_over, whole_within}
 use Rattle.wire.specs.Stored.{got}
 use Rattle.choice.proofs.Choices.{if_true, if_false}
-use lib.ListN.{length-take, length}
-use lib.Seq.{length-take-le}
-use native.Mathlib.Omega.{arith}
+use lib.ListN.{length}
 use mathlib.Core.Path.{◌≡◌, refl, sym, ◌∙◌}
 use Rattle.wire.proofs.store.Store.get.Goals.{Start}
 use Rattle.std.proofs.Common.{rules}

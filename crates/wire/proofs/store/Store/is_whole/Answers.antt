@@ -1,10 +1,8 @@
 use Rattle.wire.specs.Stored.{whole_store}
 use Rattle.choice.proofs.Choices.{if_true, if_false}
-use lib.Seq.{length-take-le}
 use borrow.Author.Tests.{le-leb, lt-leb}
 use lib.ListN.{length}
-use native.Mathlib.Omega.{arith}
-use mathlib.Core.Path.{◌≡◌, refl, sym}
+use mathlib.Core.Path.{◌≡◌, refl}
 use Rattle.wire.proofs.store.Store.is_whole.Goals.{Start}
 use Rattle.std.proofs.Common.{rules}
 use Rattle.wire.proofs.store.Store.is_whole.Goals as goal
