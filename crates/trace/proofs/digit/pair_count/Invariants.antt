@@ -1,0 +1,14 @@
+use Prim.Native.Nat.{◌+◌, ◌≤◌}
+use lib.ListN.{length}
+use native.Mathlib.Omega.{arith}
+use mathlib.Core.Path.{◌≡◌, sym, ap, ◌∙◌}
+use Rattle.octets.proofs.Runs.{part_tail}
+use Rattle.trace.specs.Digits.{pairs_of}
+use Rattle.trace.proofs.Digits.{pairs_more, pairs_end, pairs_short}
+use Rattle.trace.proofs.digit.pair_count.Given as goal
+
+abbrev pub invariant-loop-t : goal.invariant-loop-t
+invariant-loop-t l = (l.n + length l.t ≤ length l.text) × (pairs_of l.text ≡ l.n + pairs_of l.t)
+
+abbrev pub decreases-loop-t : goal.decreases-loop-t
+decreases-loop-t l = length l.t
