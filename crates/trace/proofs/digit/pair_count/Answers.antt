@@ -1,7 +1,5 @@
-use Prim.Native.Nat.{◌+◌, ◌≤◌}
-use lib.ListN.{length}
 use native.Mathlib.Omega.{arith}
-use mathlib.Core.Path.{◌≡◌, sym, ap, ◌∙◌}
+use mathlib.Core.Path.{sym, ap}
 use Rattle.octets.proofs.Runs.{part_tail}
 use Rattle.trace.specs.Digits.{pairs_of}
 use Rattle.trace.proofs.Digits.{pairs_more, pairs_end, pairs_short}

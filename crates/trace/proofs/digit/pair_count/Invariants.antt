@@ -1,10 +1,7 @@
 use Prim.Native.Nat.{◌+◌, ◌≤◌}
 use lib.ListN.{length}
-use native.Mathlib.Omega.{arith}
-use mathlib.Core.Path.{◌≡◌, sym, ap, ◌∙◌}
-use Rattle.octets.proofs.Runs.{part_tail}
+use mathlib.Core.Path.{◌≡◌}
 use Rattle.trace.specs.Digits.{pairs_of}
-use Rattle.trace.proofs.Digits.{pairs_more, pairs_end, pairs_short}
 use Rattle.trace.proofs.digit.pair_count.Given as goal
 
 abbrev pub invariant-loop-t : goal.invariant-loop-t

@@ -1,5 +1,4 @@
-use lib.ListN.{length}
-use mathlib.Core.Path.{◌≡◌, refl, sym, ◌∙◌}
+use mathlib.Core.Path.{sym, ◌∙◌}
 use Rattle.octets.proofs.Runs.{part_tail}
 use Rattle.trace.specs.Lines.{begins_with}
 use Rattle.trace.proofs.Lines.{begins_short, begins_other, begins_more, begins_all}

@@ -1,8 +1,6 @@
 use lib.ListN.{length}
-use mathlib.Core.Path.{◌≡◌, refl, sym, ◌∙◌}
-use Rattle.octets.proofs.Runs.{part_tail}
+use mathlib.Core.Path.{◌≡◌}
 use Rattle.trace.specs.Lines.{begins_with}
-use Rattle.trace.proofs.Lines.{begins_short, begins_other, begins_more, begins_all}
 use Rattle.trace.proofs.line.begins.Given as goal
 
 abbrev pub invariant-loop-x : goal.invariant-loop-x

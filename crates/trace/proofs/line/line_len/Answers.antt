@@ -1,7 +1,5 @@
-use Prim.Native.Nat.{◌+◌, ◌≤◌}
-use lib.ListN.{length}
 use native.Mathlib.Omega.{arith}
-use mathlib.Core.Path.{◌≡◌, ap}
+use mathlib.Core.Path.{ap}
 use Rattle.octets.proofs.Runs.{part_tail}
 use Rattle.trace.specs.Lines.{line_length}
 use Rattle.trace.proofs.Lines.{line_end_lem, line_more, line_none}

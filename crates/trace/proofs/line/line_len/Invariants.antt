@@ -1,10 +1,7 @@
 use Prim.Native.Nat.{◌+◌, ◌≤◌}
 use lib.ListN.{length}
-use native.Mathlib.Omega.{arith}
-use mathlib.Core.Path.{◌≡◌, ap}
-use Rattle.octets.proofs.Runs.{part_tail}
+use mathlib.Core.Path.{◌≡◌}
 use Rattle.trace.specs.Lines.{line_length}
-use Rattle.trace.proofs.Lines.{line_end_lem, line_more, line_none}
 use Rattle.trace.proofs.line.line_len.Given as goal
 
 abbrev pub invariant-loop-t : goal.invariant-loop-t

@@ -1,6 +1,5 @@
 use mathlib.Core.Path.{refl, sym, ◌∙◌}
 use Rattle.trace.specs.Numbers.{decimal}
-use borrow.Author.Tests.{not-true, not-false}
 use Rattle.choice.proofs.Choices.{if_true, if_false}
 use Rattle.trace.proofs.number.decimal.Goals as goal
 

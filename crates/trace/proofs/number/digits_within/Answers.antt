@@ -1,10 +1,10 @@
-use Prim.Native.Nat.{◌+◌, ◌*◌, ◌≤◌}
-use lib.ListN.{length, drop, get_or}
+use Prim.Native.Nat.{◌+◌, ◌*◌}
+use lib.ListN.{drop, get_or}
 use native.Mathlib.Omega.{arith}
-use mathlib.Core.Path.{◌≡◌, sym, ap, ◌∙◌}
+use mathlib.Core.Path.{sym, ap, ◌∙◌}
 use Rattle.octets.proofs.Runs.{part_tail}
 use Rattle.trace.specs.Digits.{digit_of}
-use Rattle.trace.specs.Numbers.{digits_of, within}
+use Rattle.trace.specs.Numbers.{digits_of}
 use Rattle.trace.proofs.Numbers.{digits_none, digits_end, digits_more, onward, onward_start, onward_end, onward_over, onward_more}
 use Rattle.trace.proofs.number.digits_within.Goals as goal
 

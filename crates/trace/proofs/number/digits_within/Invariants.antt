@@ -1,11 +1,8 @@
-use Prim.Native.Nat.{◌+◌, ◌*◌, ◌≤◌}
-use lib.ListN.{length, drop, get_or}
-use native.Mathlib.Omega.{arith}
-use mathlib.Core.Path.{◌≡◌, sym, ap, ◌∙◌}
-use Rattle.octets.proofs.Runs.{part_tail}
-use Rattle.trace.specs.Digits.{digit_of}
+use Prim.Native.Nat.{◌+◌, ◌≤◌}
+use lib.ListN.{length}
+use mathlib.Core.Path.{◌≡◌}
 use Rattle.trace.specs.Numbers.{digits_of, within}
-use Rattle.trace.proofs.Numbers.{digits_none, digits_end, digits_more, onward, onward_start, onward_end, onward_over, onward_more}
+use Rattle.trace.proofs.Numbers.{onward}
 use Rattle.trace.proofs.number.digits_within.Given as goal
 
 abbrev pub invariant-loop-t : goal.invariant-loop-t

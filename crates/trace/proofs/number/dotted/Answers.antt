@@ -1,23 +1,13 @@
 use native.Mathlib.Omega.{arith}
 use mathlib.Core.Path.{sym, ap, ◌∙◌}
-use borrow.Author.Tests.{not-true, not-false}
 use Rattle.octets.proofs.Runs.{part_tail}
 use Rattle.trace.specs.Lines.{starts_with}
-use Rattle.trace.specs.Numbers.{dot, dotted, value_of, size_of}
+use Rattle.trace.specs.Numbers.{dot, value_of}
 use Rattle.trace.proofs.Numbers.{starts_inside, dotted_stop, dotted_more, low_bounded}
 use Rattle.trace.proofs.number.dotted.Goals as goal
 
-pub slice_bounds-starts-count : goal.slice_bounds-starts-count
-slice_bounds-starts-count c = omega (arith, ap size_of c.in-Read.is)
-
-pub slice_bounds-starts-start : goal.slice_bounds-starts-start
-slice_bounds-starts-start c = omega (arith, ap size_of c.in-Read.is)
-
 pub returns-then-not-starts : goal.returns-then-not-starts
 returns-then-not-starts c = dotted_stop c.args.text.now c.in-Read.value c.in-Read.len c.in-Read.is (ap (starts_with dot) (sym (part_tail c.in-Read.len c.args.text.now)) ∙ sym c.starts.ensures ∙ c.if-not-starts.true)
-
-pub overflow_add-at : goal.overflow_add-at
-overflow_add-at c = omega (arith, ap size_of c.in-Read.is)
 
 pub slice_bounds-decimal-count : goal.slice_bounds-decimal-count
 slice_bounds-decimal-count c = omega (arith, starts_inside dot c.in-Read.len c.args.text.now (ap (starts_with dot) (sym (part_tail c.in-Read.len c.args.text.now)) ∙ sym c.starts.ensures ∙ c.if-not-starts.false))
@@ -30,6 +20,3 @@ joined-requires c = (omega (arith, ap value_of c.in-Read.is), low_bounded c.args
 
 pub returns-else-not-starts : goal.returns-else-not-starts
 returns-else-not-starts c = dotted_more c.args.text.now c.in-Read.value c.in-Read.len c.in-Read.is (ap (starts_with dot) (sym (part_tail c.in-Read.len c.args.text.now)) ∙ sym c.starts.ensures ∙ c.if-not-starts.false) c.decimal.ensures c.joined.ensures
-
-pub returns-in-Stopped : goal.returns-in-Stopped
-returns-in-Stopped c = ap (dotted c.args.text.now) (sym c.in-Stopped.is)

@@ -1,9 +1,8 @@
 use native.Mathlib.Omega.{arith}
-use lib.ListN.{length}
 use mathlib.Core.Path.{sym, ◌∙◌}
 use Rattle.octets.proofs.Runs.{part_tail}
 use Rattle.trace.specs.declared.gap.Taken.TheVariants.{Stopped, Letter, Value, Octets}
-use Rattle.trace.proofs.Records.{Step, step_line, step_form, Walked, walked_start, walked_letter, walked_value, walked_octets, walked_stop, walked_full, walked_full_octets, walked_more, walked_end}
+use Rattle.trace.proofs.Records.{Step, step_line, step_form, walked_letter, walked_value, walked_octets, walked_stop, walked_full, walked_full_octets, walked_more, walked_end}
 use Rattle.trace.proofs.record.read_record.Goals.{In-Letter, In-Value, In-Octets, In-Stopped}
 use Rattle.trace.proofs.record.read_record.Goals as goal
 
@@ -19,12 +18,6 @@ octets_step c = record { some = c.loop-f-test.true; size = c.part_len-n.ensures;
 
 stop_step : (c : In-Stopped) → Step c.loop-f.t.now c.loop-f.f.now c.part_len-n.result (Stopped c.in-Stopped.len)
 stop_step c = record { some = c.loop-f-test.true; size = c.part_len-n.ensures; got = sym c.in-Stopped.ensures }
-
-pub loop-f-init : goal.loop-f-init
-loop-f-init c = walked_start c.args.line.now c.args.form.now
-
-pub overflow_add-at : goal.overflow_add-at
-overflow_add-at c = omega (arith, step_line (letter_step (goal.at.overflow_add-at c).In-Letter))
 
 pub slice_bounds-t-count : goal.slice_bounds-t-count
 slice_bounds-t-count c = omega (arith, step_line (letter_step (goal.at.slice_bounds-t-count c).In-Letter))

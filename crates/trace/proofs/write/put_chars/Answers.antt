@@ -1,9 +1,5 @@
-use lib.ListN.{length}
-use Rattle.trace.proofs.Writers.{Onward, whole, onward, written_chars, chars_step}
+use Rattle.trace.proofs.Writers.{onward, written_chars, chars_step}
 use Rattle.trace.proofs.write.put_chars.Goals as goal
-
-pub loop-t-init : goal.loop-t-init
-loop-t-init c = whole
 
 pub loop-t-preserved : goal.loop-t-preserved
 loop-t-preserved c = onward c.loop-t.invariant c.put_char-place.ensures (chars_step c.loop-t.t.now c.loop-t-test.true)

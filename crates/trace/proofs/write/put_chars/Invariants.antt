@@ -1,5 +1,5 @@
 use lib.ListN.{length}
-use Rattle.trace.proofs.Writers.{Onward, whole, onward, written_chars, chars_step}
+use Rattle.trace.proofs.Writers.{Onward}
 use Rattle.trace.proofs.write.put_chars.Given as goal
 
 abbrev pub invariant-loop-t : goal.invariant-loop-t

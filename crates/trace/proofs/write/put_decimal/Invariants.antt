@@ -1,8 +1,4 @@
-use native.Mathlib.Omega.{arith}
-use Prim.Native.Nat.{◌-◌}
-use mathlib.Core.Path.{refl}
-use Rattle.trace.proofs.Written.{Laid, laid_none, laid_room, laid_more, laid_last}
-use lib.ListN.{length-set}
+use Rattle.trace.proofs.Written.{Laid}
 use Rattle.trace.proofs.write.put_decimal.Given as goal
 
 abbrev pub invariant-loop-rest : goal.invariant-loop-rest

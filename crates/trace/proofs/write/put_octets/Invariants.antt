@@ -1,6 +1,6 @@
 use lib.ListN.{length}
 use Rattle.trace.specs.Texts.{octets_text}
-use Rattle.trace.proofs.Writers.{Onward, whole, onward, written_octets, octets_step}
+use Rattle.trace.proofs.Writers.{Onward}
 use Rattle.trace.proofs.write.put_octets.Given as goal
 
 abbrev pub invariant-loop-t : goal.invariant-loop-t

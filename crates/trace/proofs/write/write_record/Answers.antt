@@ -3,14 +3,10 @@ use mathlib.Core.Path.{ap, ◌∙◌}
 use native.Mathlib.Omega.{arith}
 use lib.ListN.{length, length-take, length-drop}
 use Rattle.trace.specs.Forms.{head_part}
-use Rattle.trace.specs.Written.{line_of}
 use Rattle.trace.proofs.Forms.{part_size_lem}
-use Rattle.trace.proofs.Writers.{Onward, whole, onward}
+use Rattle.trace.proofs.Writers.{onward}
 use Rattle.trace.proofs.Written.{few_values, written_line, line_step}
 use Rattle.trace.proofs.write.write_record.Goals as goal
-
-pub loop-f-init : goal.loop-f-init
-loop-f-init c = whole
 
 pub slice_bounds-f-count : goal.slice_bounds-f-count
 slice_bounds-f-count c = omega (arith, (part_size_lem c.loop-f.f.now (omega arith)).1, c.part_len-n.ensures)

@@ -1,12 +1,6 @@
-use Prim.Native.Nat.{ℕ, min}
-use mathlib.Core.Path.{ap, ◌∙◌}
-use native.Mathlib.Omega.{arith}
-use lib.ListN.{length, length-take, length-drop}
-use Rattle.trace.specs.Forms.{head_part}
+use lib.ListN.{length}
 use Rattle.trace.specs.Written.{line_of}
-use Rattle.trace.proofs.Forms.{part_size_lem}
-use Rattle.trace.proofs.Writers.{Onward, whole, onward}
-use Rattle.trace.proofs.Written.{few_values, written_line, line_step}
+use Rattle.trace.proofs.Writers.{Onward}
 use Rattle.trace.proofs.write.write_record.Given as goal
 
 abbrev pub invariant-loop-f : goal.invariant-loop-f
