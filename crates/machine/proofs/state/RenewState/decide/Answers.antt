@@ -13,7 +13,7 @@ returns-then-expiry c = let expiry = rw c.new.ensures at c.expired-expiry.ensure
 pub decide_unexpired-requires : goal.decide_unexpired-requires
 unfolding clock_at gathering
 decide_unexpired-requires c = let expiry = rw c.new.ensures at c.expired-expiry.ensures in
-    record { millis_value = rw (gathered _ _ expiry c.if-expiry.false) (due_expired _ _ expiry ∙ c.if-expiry.false); next_value = rw (gathered _ _ expiry c.if-expiry.false) refl }
+    record { lasts = rw (gathered _ _ expiry c.if-expiry.false) (due_expired _ _ expiry ∙ c.if-expiry.false); end_gathered = rw (gathered _ _ expiry c.if-expiry.false) refl }
 
 pub returns : goal.returns
 unfolding clock_at gathering
