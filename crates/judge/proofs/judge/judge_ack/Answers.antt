@@ -1,4 +1,4 @@
-use mathlib.Core.Path.{sym, ◌∙◌}
+use mathlib.Core.Path.{sym}
 use Rattle.judge.proofs.Judging.{needing_none, needing_some}
 use Rattle.octets.proofs.Masks.{length_bound}
 use Rattle.judge.specs.Judged.{judged_ack}

@@ -1,4 +1,4 @@
-use mathlib.Core.Path.{sym, ◌∙◌}
+use mathlib.Core.Path.{sym}
 use Rattle.judge.proofs.Judging.{needing_none, needing_some, header_passed_over, header_passes}
 use Rattle.judge.proofs.judge.Recipient.judge.Goals as goal
 
