@@ -18,30 +18,30 @@ use Rattle.octets.specs.declared.number.MaybeNumber.TheVariants.{None, Some}
 use Rattle.wire.specs.Options.{DhcpOption, options_from, options_of, option_data, first_with}
 use Rattle.wire.specs.Readings.{message_type, type_of, transaction_id}
 use Rattle.wire.proofs.Walks.{walk_option}
-use Rattle.message.specs.Messages.{message, header, option_if, address_option, size_option, name_option, given, options}
+use Rattle.message.specs.Messages.{message, header, option_if, address_option, size_option, name_option, options}
 use Rattle.message.specs.declared.message.Message.{Message}
-use Rattle.worked.specs.Sent.{item, nameItem, addressItem, sizeItem, listItem, sent}
+use Rattle.worked.specs.Sent.{item, name_item, address_item, size_item, list_item, sent}
 
 -- An option of the writer's, read.
 one : (code : ℕ) (body r : List ℕ) → 0 < code → code < 255 → options_from 0 (option code body ++ r) ≡ item code body ∷ options_from 0 r
 one code body r h k = walk_option code body r (λ e. omega arith) (λ e. omega arith)
 
-named : (name r : List ℕ) → options_from 0 (name_option name ++ r) ≡ nameItem name ++ options_from 0 r
+named : (name r : List ℕ) → options_from 0 (name_option name ++ r) ≡ name_item name ++ options_from 0 r
 unfolding name_option
 named [] r = refl
 named (x ∷ xs) r = one host_name_code (x ∷ xs) r (omega arith) (omega arith)
 
-addressed : (code : ℕ) (address : MaybeNumber) (r : List ℕ) → 0 < code → code < 255 → options_from 0 (address_option code address ++ r) ≡ addressItem code address ++ options_from 0 r
+addressed : (code : ℕ) (address : MaybeNumber) (r : List ℕ) → 0 < code → code < 255 → options_from 0 (address_option code address ++ r) ≡ address_item code address ++ options_from 0 r
 unfolding address_option
 addressed code None r h k = refl
 addressed code (Some a) r h k = one code (bytes32 a) r h k
 
-sized : (size : MaybeNumber) (r : List ℕ) → options_from 0 (size_option message_size_code size ++ r) ≡ sizeItem size ++ options_from 0 r
+sized : (size : MaybeNumber) (r : List ℕ) → options_from 0 (size_option message_size_code size ++ r) ≡ size_item size ++ options_from 0 r
 unfolding size_option
 sized None r = refl
 sized (Some n) r = one message_size_code (bytes16 n) r (omega arith) (omega arith)
 
-listed : (asks : Bool) (list r : List ℕ) → options_from 0 (option_if asks request_list_code list ++ r) ≡ listItem asks list ++ options_from 0 r
+listed : (asks : Bool) (list r : List ℕ) → options_from 0 (option_if asks request_list_code list ++ r) ≡ list_item asks list ++ options_from 0 r
 unfolding option_if when◌then◌else◌
 listed true list r = one request_list_code list r (omega arith) (omega arith)
 listed false list r = refl
@@ -60,13 +60,13 @@ module _ (m : Message) (name list extra : List ℕ) where
   rest = extra ++ (end_code ∷ [])
 
   told : options_from 0 (address_option requested_code m.requested ++ (address_option identifier_code m.server ++ (size_option message_size_code m.size ++ (option_if m.asks request_list_code list ++ rest))))
-      ≡ addressItem requested_code m.requested ++ (addressItem identifier_code m.server ++ (sizeItem m.size ++ (listItem m.asks list ++ options_from 0 rest)))
+      ≡ address_item requested_code m.requested ++ (address_item identifier_code m.server ++ (size_item m.size ++ (list_item m.asks list ++ options_from 0 rest)))
   told =
       addressed requested_code m.requested _ (omega arith) (omega arith)
-      ∙ ap (λ (l : List DhcpOption). addressItem requested_code m.requested ++ l)
+      ∙ ap (λ (l : List DhcpOption). address_item requested_code m.requested ++ l)
       (addressed identifier_code m.server _ (omega arith) (omega arith)
-      ∙ ap (λ (l : List DhcpOption). addressItem identifier_code m.server ++ l)
-      (sized m.size _ ∙ ap (λ (l : List DhcpOption). sizeItem m.size ++ l) (listed m.asks list rest)))
+      ∙ ap (λ (l : List DhcpOption). address_item identifier_code m.server ++ l)
+      (sized m.size _ ∙ ap (λ (l : List DhcpOption). size_item m.size ++ l) (listed m.asks list rest)))
 
   in_row : options_from 0 (row m name list rest)
       ≡ sent m name list ++ options_from 0 rest
@@ -74,7 +74,7 @@ module _ (m : Message) (name list extra : List ℕ) where
       one message_type_code (m.kind ∷ []) _ (omega arith) (omega arith)
       ∙ ap (λ (l : List DhcpOption). item message_type_code (m.kind ∷ []) ∷ l)
       (one client_id_code (1 ∷ m.hardware) _ (omega arith) (omega arith)
-      ∙ ap (λ (l : List DhcpOption). item client_id_code (1 ∷ m.hardware) ∷ l) (named name _ ∙ ap (λ (l : List DhcpOption). nameItem name ++ l) told))
+      ∙ ap (λ (l : List DhcpOption). item client_id_code (1 ∷ m.hardware) ∷ l) (named name _ ∙ ap (λ (l : List DhcpOption). name_item name ++ l) told))
       ∙ simp append_assoc
 
   -- The options of a message that was written are those it was given, then the extra ones.

@@ -1,2 +1,3 @@
-pub mod Starred
 pub mod Sent
+pub mod Starred
+pub mod OwnMessages
