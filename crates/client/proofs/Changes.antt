@@ -35,11 +35,11 @@ use Rattle.tables.specs.declared.apply.Applied.{Applied}
 use Rattle.lease.specs.Leases.{no_lease, installed, nothing}
 use Rattle.lease.specs.declared.lease.DhcpLease.{DhcpLease}
 use Rattle.settings.specs.Settings.{refusal_of, waits_of}
-use Rattle.sending.specs.Sendings.{drawn_for, endpoints_of, body_of, datagramFor, wrote, left_in}
-use Rattle.sending.proofs.Sendings.{left_by_lem, datagram-size, fits_or_not}
+use Rattle.sending.specs.Sendings.{drawn_for, endpoints_of, body_of, datagram_for, wrote, left_in}
+use Rattle.sending.proofs.Sendings.{left_by_lem, datagram_size, fits_or_not}
 use Rattle.client.specs.Clients.{with_lease, with_session, whole_all}
 use Rattle.client.specs.Resets.{restarted, dropped, cleared}
-use Rattle.client.specs.Polls.{PolledInto, id_of, datagramOf, kept, awaiting, refusal, refused_by, silent, built, purging, settled_by, moved, sent, polled_as, polled_with, polled}
+use Rattle.client.specs.Polls.{PolledInto, id_of, datagram_of, kept, awaiting, refusal, refused_by, silent, built, purging, settled_by, moved, sent, polled_as, polled_with, polled}
 use Rattle.client.specs.Changes.{ChangeInto, unmoved, drops, moved_by, change_written, change_sent, change_as, change_by, poll_change, left_by, after_change}
 use Rattle.client.specs.declared.client.Client.{Client}
 use Rattle.client.specs.declared.reset.Settled.{Settled}
@@ -81,10 +81,10 @@ module _ (c : Client) (g : Rand) (wake : Instant) (s : Sending) where
     sent_by : {v : Answer} → w ≡ v → change_sent c g b wake s ≡ change_written c g b wake s v
     sent_by i = sent_as b z ∙ ap (change_written c g b wake s) (sym answer ∙ i)
 
-    left : {v : Answer} → w ≡ v → b' ≡ leaves v (datagramOf c g s) b
+    left : {v : Answer} → w ≡ v → b' ≡ leaves v (datagram_of c g s) b
     left i =
         o.1 ∙ ap (λ (x : Drawn32). left_in c.settings c.lease x.value s b) e ∙ left_by_lem c.settings c.lease (id_of c g s) s b
-        ∙ ap (λ x. leaves x (datagramOf c g s) b) (sym answer ∙ i)
+        ∙ ap (λ x. leaves x (datagram_of c g s) b) (sym answer ∙ i)
 
     pub change_written_lem : {n : ℕ} {a : PollAnswer} {r : PollChange} → w ≡ Length n → a ≡ built n ends wake → r ≡ moved_by c.session.state d s a
         → (r ≡ (change_sent c g b wake s).change) × (b' ≡ (change_sent c g b wake s).buffer)
@@ -150,12 +150,12 @@ into c t m = record { polled = after_change c t m.change; buffer = m.buffer }
 
 module _ (c : Client) (t : Tables) (g : Rand) (wake : Instant) (s : Sending) (h : refusal_of c.settings ≡ None) where
   abbrev came : List ℕ → Answer → PolledInto
-  came b (Length n) = record { polled = settled_by c t (drawn c g wake s) s (built n (endpoints_of c.lease s) wake); buffer = over (datagramOf c g s) b }
+  came b (Length n) = record { polled = settled_by c t (drawn c g wake s) s (built n (endpoints_of c.lease s) wake); buffer = over (datagram_of c g s) b }
   came b (Refused n) = refused_by c t g b 8
 
   came_into : (b : List ℕ) (a : Answer) → came b a ≡ into c t (change_written c g b wake s a)
   came_into b (Length n) =
-      ap (λ (x : Polled). record { polled = x; buffer = over (datagramOf c g s) b }) (sym (after_moved c t (drawn c g wake s) s (built n (endpoints_of c.lease s) wake)))
+      ap (λ (x : Polled). record { polled = x; buffer = over (datagram_of c g s) b }) (sym (after_moved c t (drawn c g wake s) s (built n (endpoints_of c.lease s) wake)))
   came_into b (Refused n) = ap (λ (x : Polled). record { polled = x; buffer = b }) (sym (after_unmoved c t g (outcome.Refused 8)))
 
   sent_into : (b : List ℕ) → sent c t g b wake s ≡ into c t (change_sent c g b wake s)
@@ -164,8 +164,8 @@ module _ (c : Client) (t : Tables) (g : Rand) (wake : Instant) (s : Sending) (h 
   sent_into (x ∷ xs) =
       let size = length (body_of c.settings c.lease (id_of c g s) s) in
       let room = length (x ∷ xs) in
-      let out = length (datagramOf c g s) in
-      let l = datagram-size c.settings h c.lease (id_of c g s) s in
+      let out = length (datagram_of c g s) in
+      let l = datagram_size c.settings h c.lease (id_of c g s) s in
       if_cases (λ a. sent c t g (x ∷ xs) wake s ≡ came (x ∷ xs) a) (leb (8 + size) room)
       (λ e. let f = leb-true (8 + size) room e in sym (if_false (refused_by c t g (x ∷ xs) 8) (le-ltb room out (omega (arith, l, f))) (ap (λ n. came (x ∷ xs) (Length n)) (sym l))))
       (λ e. let f = leb-false (8 + size) room e in sym (if_true (moved c t g (x ∷ xs) wake s) (lt-ltb room out (omega (arith, l, f))) refl))

@@ -18,10 +18,10 @@ use Rattle.machine.specs.declared.decide.Due.{Due}
 use Rattle.machine.specs.declared.decide.Due.TheVariants.{Nothing, Send}
 use Rattle.tables.specs.declared.tables.Tables.{Tables}
 use Rattle.lease.specs.Leases.{whole_lease}
-use Rattle.sending.proofs.Sendings.{datagram-fits as message-fits}
+use Rattle.sending.proofs.Sendings.{datagram_fits as message-fits}
 use Rattle.client.specs.Clients.{with_session, lease_fits, whole_client, whole_all}
 use Rattle.client.specs.Resets.{cleared}
-use Rattle.client.specs.Polls.{PolledInto, id_of, datagramOf, awaiting, moved, refused_by, passed_by, too_short, sent, polled_as, polled_by, polled_with}
+use Rattle.client.specs.Polls.{PolledInto, id_of, datagram_of, awaiting, moved, refused_by, passed_by, too_short, sent, polled_as, polled_by, polled_with}
 use Rattle.client.specs.declared.client.Client.{Client}
 use Rattle.client.specs.declared.poll.PollAnswer.{PollAnswer}
 use Rattle.client.specs.declared.poll.PollOutcome.{PollOutcome}
@@ -33,7 +33,7 @@ module _ (c : Client) (t : Tables) (g : Rand) (b : List ℕ) where
   -- what holds of a refusal, of a poll with nothing due and of one that sends, holds of a poll
   pub sent_cases : (P : PolledInto → Type 0) → P (refused_by c t g b 8) → (m : Instant) (s : Sending) → P (moved c t g b m s) → P (sent c t g b m s)
   unfolding sent
-  sent_cases P r m s f = if_cases P (too_short b (length (datagramOf c g s))) (λ e. r) (λ e. f)
+  sent_cases P r m s f = if_cases P (too_short b (length (datagram_of c g s))) (λ e. r) (λ e. f)
 
   pub polled_cases : (P : PolledInto → Type 0) → ((n : ℕ) → P (refused_by c t g b n)) → ((m : Instant) → P (passed_by c t g b m)) → ((m : Instant) (s : Sending) → P (moved c t g b m s))
       → (w : Waits) (now : Instant) → P (polled_with w c t g now b)
@@ -66,8 +66,8 @@ module _ (c : Client) (t : Tables) (g : Rand) (b : List ℕ) where
       answered e = false≢true (ap is_refused e)
 
 -- A message has from 1 to MTU − 20 octets, the UDP header among them.
-pub datagram-fits : (c : Client) → whole_client c ≡ true → (g : Rand) (s : Sending) → (0 < length (datagramOf c g s)) × (length (datagramOf c g s) ≤ c.settings.mtu - 20)
-datagram-fits c h g s = message-fits c.settings (settings_whole c h) c.lease (id_of c g s) s
+pub datagram_fits : (c : Client) → whole_client c ≡ true → (g : Rand) (s : Sending) → (0 < length (datagram_of c g s)) × (length (datagram_of c g s) ≤ c.settings.mtu - 20)
+datagram_fits c h g s = message-fits c.settings (settings_whole c h) c.lease (id_of c g s) s
 
 module _ (c : Client) (t : Tables) (h : whole_all c t ≡ true) (g : Rand) (buffer : List ℕ) (wake : Instant) where
   held_whole : has_lease c.session.state ≡ true → whole_lease c.lease ≡ true

@@ -21,7 +21,7 @@ use Rattle.settings.specs.Settings.{waits_of}
 use Rattle.sending.specs.Sendings.{drawn_for, endpoints_of, wrote}
 use Rattle.client.specs.Clients.{with_session}
 use Rattle.client.specs.Resets.{dropped}
-use Rattle.client.specs.Polls.{id_of, datagramOf, kept, awaiting, silent, built, purging}
+use Rattle.client.specs.Polls.{id_of, datagram_of, kept, awaiting, silent, built, purging}
 use Rattle.client.specs.declared.client.Session.{Session}
 use Rattle.client.specs.declared.client.Client.{Client}
 use Rattle.client.specs.declared.reset.Settled.{Settled}
@@ -59,7 +59,7 @@ moved_by state drawn sending answer = record {
 abbrev pub change_written : Client → Rand → List ℕ → Instant → Sending → Answer → ChangeInto
 change_written c g buffer wake sending (answer.Length n) = record {
   change = moved_by c.session.state (drawn_for c.session.transaction_id g sending) sending (built n (endpoints_of c.lease sending) wake);
-  buffer = over (datagramOf c g sending) buffer;
+  buffer = over (datagram_of c g sending) buffer;
 }
 change_written c g buffer wake sending (answer.Refused n) = record { change = unmoved c.session g (Refused 8); buffer = buffer }
 

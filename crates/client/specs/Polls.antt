@@ -16,7 +16,7 @@ use Rattle.machine.specs.declared.decide.Due.TheVariants.{Nothing, Send}
 use Rattle.machine.specs.declared.decide.Decision.{Decision}
 use Rattle.tables.specs.declared.tables.Tables.{Tables}
 use Rattle.settings.specs.Settings.{waits_of}
-use Rattle.sending.specs.Sendings.{id_for, drawn_for, endpoints_of, datagramFor}
+use Rattle.sending.specs.Sendings.{id_for, drawn_for, endpoints_of, datagram_for}
 use Rattle.client.specs.Clients.{with_session, whole_all}
 use Rattle.client.specs.Resets.{cleared}
 use Rattle.client.specs.declared.client.Session.{Session}
@@ -30,8 +30,8 @@ use Rattle.client.specs.declared.poll.Polled.{Polled}
 abbrev pub id_of : Client → Rand → Sending → ℕ
 id_of c g sending = id_for c.session.transaction_id g sending
 
-abbrev pub datagramOf : Client → Rand → Sending → List ℕ
-datagramOf c g sending = datagramFor c.settings c.lease (id_of c g sending) sending
+abbrev pub datagram_of : Client → Rand → Sending → List ℕ
+datagram_of c g sending = datagram_for c.settings c.lease (id_of c g sending) sending
 
 -- The client and its tables before the message is sent: a lease that is held is dropped where the client discovers.
 abbrev pub kept : Client → Tables → Settled
@@ -102,8 +102,8 @@ settled_by c t drawn sending answer = record {
 
 abbrev pub moved : Client → Tables → Rand → List ℕ → Instant → Sending → PolledInto
 moved c t g buffer wake sending = record {
-  polled = settled_by c t (drawn_for c.session.transaction_id g sending) sending (built_into buffer (endpoints_of c.lease sending) (datagramOf c g sending) wake);
-  buffer = buffer_with buffer (datagramOf c g sending);
+  polled = settled_by c t (drawn_for c.session.transaction_id g sending) sending (built_into buffer (endpoints_of c.lease sending) (datagram_of c g sending) wake);
+  buffer = buffer_with buffer (datagram_of c g sending);
 }
 
 -- 8: "message due, buffer not empty but shorter than that datagram".
@@ -113,7 +113,7 @@ too_short (x ∷ xs) size = ltb (length (x ∷ xs)) size
 
 unfoldable pub sent : Client → Tables → Rand → List ℕ → Instant → Sending → PolledInto
 sent c t g buffer wake sending =
-    if too_short buffer (length (datagramOf c g sending)) then refused_by c t g buffer 8
+    if too_short buffer (length (datagram_of c g sending)) then refused_by c t g buffer 8
     else moved c t g buffer wake sending
 
 abbrev pub polled_as : Client → Tables → Rand → List ℕ → Instant → Due → PolledInto

@@ -40,19 +40,19 @@ module _ (m : Message) (name list extra : List ℕ) where
   unfolding written if◌then◌else◌
   fits e h = simp (e, le-leb _ _ h)
 
-  pub over-room : {n room : ℕ} → measured m name list extra ≡ Length n → room < 8 + n → written m name list extra room ≡ Refused 8
+  pub over_room : {n room : ℕ} → measured m name list extra ≡ Length n → room < 8 + n → written m name list extra room ≡ Refused 8
   unfolding written if◌then◌else◌
-  over-room e h = simp (e, lt-leb _ _ h)
+  over_room e h = simp (e, lt-leb _ _ h)
 
   pub refused : {k : ℕ} (room : ℕ) → measured m name list extra ≡ Refused k → written m name list extra room ≡ Refused k
   unfolding written
   refused room e = rw e
 
   -- the buffer after it
-  pub leaves-datagram : {n : ℕ} (ends : Endpoints) (offload : Bool) (buffer : List ℕ) → written m name list extra (length buffer) ≡ Length n
+  pub leaves_datagram : {n : ℕ} (ends : Endpoints) (offload : Bool) (buffer : List ℕ) → written m name list extra (length buffer) ≡ Length n
       → buffer_after ends offload m name list extra buffer ≡ over (datagram ends offload (message m name list extra)) buffer
   unfolding buffer_after
-  leaves-datagram ends offload buffer e = rw e
+  leaves_datagram ends offload buffer e = rw e
 
   pub leaves_all : {k : ℕ} (ends : Endpoints) (offload : Bool) (buffer : List ℕ) → written m name list extra (length buffer) ≡ Refused k
       → buffer_after ends offload m name list extra buffer ≡ buffer

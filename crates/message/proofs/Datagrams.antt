@@ -33,6 +33,6 @@ field_length : (ends : Endpoints) (offload : Bool) (body : List ℕ) → length 
 unfolding checksum_field
 field_length ends offload body = two offload _ refl
 
-pub datagram-length : (ends : Endpoints) (offload : Bool) (body : List ℕ) → length (datagram ends offload body) ≡ 8 + length body
+pub datagram_length : (ends : Endpoints) (offload : Bool) (body : List ℕ) → length (datagram ends offload body) ≡ 8 + length body
 unfolding datagram
-datagram-length ends offload body = simp length-append (omega (arith, field_length ends offload body))
+datagram_length ends offload body = simp length-append (omega (arith, field_length ends offload body))

@@ -4,9 +4,9 @@ use mathlib.Core.Bool.{Bool, true, false}
 use Rattle.client.specs.declared.poll.PollOutcome.{PollOutcome}
 use Rattle.client.specs.declared.poll.PollOutcome.TheVariants.{Answered, Refused}
 
-abbrev pub isAnswered : PollOutcome → Bool
-isAnswered (Answered answer) = true
-isAnswered (Refused number) = false
+abbrev pub is_answered : PollOutcome → Bool
+is_answered (Answered answer) = true
+is_answered (Refused number) = false
 
 abbrev pub length_of : PollOutcome → ℕ
 length_of (Answered answer) = answer.length

@@ -17,35 +17,35 @@ use Rattle.machine.specs.declared.decide.Due.{Due}
 use Rattle.machine.specs.declared.decide.Due.TheVariants.{Nothing, Send}
 use Rattle.tables.specs.declared.tables.Tables.{Tables}
 use Rattle.client.specs.Clients.{whole_all}
-use Rattle.client.specs.Polls.{PolledInto, datagramOf, refused_by, moved, polled_as, polled_with}
+use Rattle.client.specs.Polls.{PolledInto, datagram_of, refused_by, moved, polled_as, polled_with}
 use Rattle.client.specs.declared.client.Client.{Client}
 use Rattle.client.specs.declared.poll.PollAnswer.{PollAnswer}
 use Rattle.client.specs.declared.poll.PollOutcome.TheVariants.{Answered}
 use Rattle.client.proofs.Polling.{sent_cases}
-use Rattle.run.proofs.Answers.{isAnswered, length_of}
+use Rattle.run.proofs.Answers.{is_answered, length_of}
 
 -- The datagram that is due, if one is.
-abbrev pub datagramDue : Client → Rand → Due → List ℕ
-datagramDue c g Nothing = []
-datagramDue c g (Send s) = datagramOf c g s
+abbrev pub datagram_due : Client → Rand → Due → List ℕ
+datagram_due c g Nothing = []
+datagram_due c g (Send s) = datagram_of c g s
 
 -- A poll that answers a length above 0 answers that datagram's, and leaves the buffer with it in front.
 abbrev pub BuildsDue : List ℕ → List ℕ → PolledInto → Type 0
 BuildsDue out b r = (a : PollAnswer) → r.polled.outcome ≡ Answered a → 0 < a.length → (a.length ≡ length out) × (r.buffer ≡ over out b)
 
 refused_builds : (c : Client) (t : Tables) (g : Rand) (b out : List ℕ) (n : ℕ) → BuildsDue out b (refused_by c t g b n)
-refused_builds c t g b out n a e l = absurd (false≢true (ap isAnswered e))
+refused_builds c t g b out n a e l = absurd (false≢true (ap is_answered e))
 
-moved_builds : (c : Client) (t : Tables) (g : Rand) (m : Instant) (s : Sending) (b : List ℕ) → BuildsDue (datagramOf c g s) b (moved c t g b m s)
+moved_builds : (c : Client) (t : Tables) (g : Rand) (m : Instant) (s : Sending) (b : List ℕ) → BuildsDue (datagram_of c g s) b (moved c t g b m s)
 moved_builds c t g m s [] a e l = absurd (omega (arith, ap length_of e))
 moved_builds c t g m s (y ∷ ys) a e l = (sym (ap length_of e), refl)
 
-pub builds_due : (w : Waits) (c : Client) (t : Tables) (g : Rand) (now : Instant) (b : List ℕ) → BuildsDue (datagramDue c g (decided w c.session.state now.millis).due) b (polled_with w c t g now b)
+pub builds_due : (w : Waits) (c : Client) (t : Tables) (g : Rand) (now : Instant) (b : List ℕ) → BuildsDue (datagram_due c g (decided w c.session.state now.millis).due) b (polled_with w c t g now b)
 unfolding polled_with
 builds_due w c t g now b =
-    if_cases (BuildsDue (datagramDue c g (decided w c.session.state now.millis).due) b) (not (whole_all c t)) (λ e. refused_builds c t g b _ 9)
+    if_cases (BuildsDue (datagram_due c g (decided w c.session.state now.millis).due) b) (not (whole_all c t)) (λ e. refused_builds c t g b _ 9)
     (λ e. by (decided w c.session.state now.millis).due (decided w c.session.state now.millis).wake)
   where
-    by : (d : Due) (m : Instant) → BuildsDue (datagramDue c g d) b (polled_as c t g b m d)
+    by : (d : Due) (m : Instant) → BuildsDue (datagram_due c g d) b (polled_as c t g b m d)
     by Nothing m = λ a e l. absurd (omega (arith, ap length_of e))
-    by (Send s) m = sent_cases c t g b (BuildsDue (datagramOf c g s) b) (refused_builds c t g b (datagramOf c g s) 8) m s (moved_builds c t g m s b)
+    by (Send s) m = sent_cases c t g b (BuildsDue (datagram_of c g s) b) (refused_builds c t g b (datagram_of c g s) 8) m s (moved_builds c t g m s b)

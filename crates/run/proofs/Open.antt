@@ -20,17 +20,17 @@ use Rattle.machine.specs.declared.decide.Due.TheVariants.{Nothing, Send}
 use Rattle.machine.specs.declared.decide.Decision.{Decision}
 use Rattle.tables.specs.declared.tables.Tables.{Tables}
 use Rattle.client.specs.Clients.{whole_all}
-use Rattle.client.specs.Polls.{PolledInto, datagramOf, too_short, polled_as, polled_by, polled_with}
+use Rattle.client.specs.Polls.{PolledInto, datagram_of, too_short, polled_as, polled_by, polled_with}
 use Rattle.settings.specs.declared.settings.Settings.{Settings}
 use Rattle.client.specs.declared.client.Client.{Client}
 use Rattle.client.specs.declared.poll.PollOutcome.TheVariants as poll
 use Rattle.client.proofs.Wholes.{all_parts}
 use Rattle.client.proofs.Effects.{Fitting, moved_settles}
-use Rattle.client.proofs.Polling.{sent_cases, polled_whole, datagram-fits, moved_whole}
+use Rattle.client.proofs.Polling.{sent_cases, polled_whole, datagram_fits, moved_whole}
 use Rattle.octets.specs.declared.number.MaybeNumber.TheVariants.{Some}
 use Rattle.run.specs.Calls.{Post, calls_with}
 use Rattle.run.specs.Demand3.{Entry, moment_after, CameTo, IfPolls, IfDoes, leaves, adds, next, Run, Throughout, Enough, Builds, TooShort, Justly, Open}
-use Rattle.run.proofs.Answers.{isAnswered, number_of}
+use Rattle.run.proofs.Answers.{is_answered, number_of}
 use Rattle.run.proofs.Polls.{enough_or_short, short_lent, sends_by}
 use Rattle.run.proofs.Sorted.{Sorted, polls, does, answers, sorted}
 use Rattle.run.proofs.Lawful.{Sound}
@@ -80,12 +80,12 @@ module _ (w : Waits) (c : Client) (tb : Tables) (g : Rand) (now : Instant) (wh :
   record Refusal (b : List ℕ) (k : ℕ) : Type 0 where
     by_8 : k ≡ 8
     sent : Sending
-    short : too_short b (length (datagramOf c g sent)) ≡ true
-    longer : (other : List ℕ) → too_short other (length (datagramOf c g sent)) ≡ false → Builds (length (datagramOf c g sent)) other (polled_with w c tb g now other)
+    short : too_short b (length (datagram_of c g sent)) ≡ true
+    longer : (other : List ℕ) → too_short other (length (datagram_of c g sent)) ≡ false → Builds (length (datagram_of c g sent)) other (polled_with w c tb g now other)
 
   module _ (b : List ℕ) (k : ℕ) where
     by_sends : (s : Sending) (m : Instant) → decided w c.session.state now.millis ≡ record { due = Send s; wake = m }
-        → (polled_by c tb g b (record { due = Send s; wake = m })).polled.outcome ≡ poll.Refused k → (v : Bool) → too_short b (length (datagramOf c g s)) ≡ v → Refusal b k
+        → (polled_by c tb g b (record { due = Send s; wake = m })).polled.outcome ≡ poll.Refused k → (v : Bool) → too_short b (length (datagram_of c g s)) ≡ v → Refusal b k
     by_sends s m q f true t =
         let n = sends_by c tb g m s in
         record {
@@ -93,15 +93,15 @@ module _ (w : Waits) (c : Client) (tb : Tables) (g : Rand) (now : Instant) (wh :
           sent = s;
           short = t;
           longer = λ other l.
-              subst⁻¹ (Builds (length (datagramOf c g s)) other) (polled_whole c tb g other wh w now ∙ ap (polled_by c tb g other) q) (n.builds other l);
+              subst⁻¹ (Builds (length (datagram_of c g s)) other) (polled_whole c tb g other wh w now ∙ ap (polled_by c tb g other) q) (n.builds other l);
         }
     by_sends s m q f false t =
         let n = (sends_by c tb g m s).builds b t in
-        absurd (false≢true (sym (ap isAnswered (sym n.answered ∙ f))))
+        absurd (false≢true (sym (ap is_answered (sym n.answered ∙ f))))
 
     by_due : (d : Due) (m : Instant) → decided w c.session.state now.millis ≡ record { due = d; wake = m } → (polled_as c tb g b m d).polled.outcome ≡ poll.Refused k → Refusal b k
-    by_due Nothing m q f = absurd (false≢true (sym (ap isAnswered f)))
-    by_due (Send s) m q f = by_sends s m q f (too_short b (length (datagramOf c g s))) refl
+    by_due Nothing m q f = absurd (false≢true (sym (ap is_answered f)))
+    by_due (Send s) m q f = by_sends s m q f (too_short b (length (datagram_of c g s))) refl
 
     refusal : (polled_with w c tb g now b).polled.outcome ≡ poll.Refused k → Refusal b k
     refusal e =
@@ -114,14 +114,14 @@ module _ (w : Waits) (s : Settings) where
       → TooShort (calls_with w) s p now b k
   poll_open p now v b k e =
       let r = refusal w p.client p.tables p.rand now v.whole b k e in
-      let l = short_lent (length (datagramOf p.client p.rand r.sent)) b r.short in
+      let l = short_lent (length (datagram_of p.client p.rand r.sent)) b r.short in
       record {
         by_8 = r.by_8;
         lent = l.0;
-        n = length (datagramOf p.client p.rand r.sent);
+        n = length (datagram_of p.client p.rand r.sent);
         short = l.1;
-        most = subst (λ (x : Settings). length (datagramOf p.client p.rand r.sent) ≤ x.mtu - 20) v.settings_are (datagram-fits p.client (all_parts p.client p.tables v.whole).0 p.rand r.sent).1;
-        longer = λ other q. r.longer other (enough_or_short (length (datagramOf p.client p.rand r.sent)) other (enough_for (length (datagramOf p.client p.rand r.sent)) other q));
+        most = subst (λ (x : Settings). length (datagram_of p.client p.rand r.sent) ≤ x.mtu - 20) v.settings_are (datagram_fits p.client (all_parts p.client p.tables v.whole).0 p.rand r.sent).1;
+        longer = λ other q. r.longer other (enough_or_short (length (datagram_of p.client p.rand r.sent)) other (enough_for (length (datagram_of p.client p.rand r.sent)) other q));
       }
 
   polls_open : (p : Post) (now : Instant) → Sound s p → {x : CameTo} → Sorted w s p.client p.tables p.rand now x

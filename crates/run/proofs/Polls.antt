@@ -20,7 +20,7 @@ use Rattle.machine.proofs.Timers.{Timers, Shows, Near, Ahead, soonest, wake_at}
 use Rattle.machine.proofs.Decisions.{Goes, Decides, nothing, sending, decides}
 use Rattle.tables.specs.declared.tables.Tables.{Tables}
 use Rattle.client.specs.Clients.{whole_all}
-use Rattle.client.specs.Polls.{PolledInto, datagramOf, refused_by, passed_by, moved, too_short, sent, polled_by, polled_with}
+use Rattle.client.specs.Polls.{PolledInto, datagram_of, refused_by, passed_by, moved, too_short, sent, polled_by, polled_with}
 use Rattle.client.specs.declared.client.Client.{Client}
 use Rattle.client.proofs.Polling.{sent_cases}
 use Rattle.run.specs.Demand3.{Enough, Builds}
@@ -61,10 +61,10 @@ short_lent n (y ∷ ys) e = (omega arith, ltb-true (length (y ∷ ys)) n e)
 
 -- A decision to send s: the message's length is one number, whatever the buffer.
 pub record Sends (c : Client) (t : Tables) (g : Rand) (d : Decision) (s : Sending) : Type 0 where
-  pub builds : (b : List ℕ) → too_short b (length (datagramOf c g s)) ≡ false → Builds (length (datagramOf c g s)) b (polled_by c t g b d)
-  pub refuses : (b : List ℕ) → too_short b (length (datagramOf c g s)) ≡ true → polled_by c t g b d ≡ refused_by c t g b 8
+  pub builds : (b : List ℕ) → too_short b (length (datagram_of c g s)) ≡ false → Builds (length (datagram_of c g s)) b (polled_by c t g b d)
+  pub refuses : (b : List ℕ) → too_short b (length (datagram_of c g s)) ≡ true → polled_by c t g b d ≡ refused_by c t g b 8
 
-moved_builds : (c : Client) (t : Tables) (g : Rand) (m : Instant) (s : Sending) (b : List ℕ) → Builds (length (datagramOf c g s)) b (moved c t g b m s)
+moved_builds : (c : Client) (t : Tables) (g : Rand) (m : Instant) (s : Sending) (b : List ℕ) → Builds (length (datagram_of c g s)) b (moved c t g b m s)
 moved_builds c t g m s [] = record { answer = _; answered = refl; length = refl }
 moved_builds c t g m s (y ∷ ys) = record { answer = _; answered = refl; length = refl }
 
@@ -72,6 +72,6 @@ pub sends_by : (c : Client) (t : Tables) (g : Rand) (m : Instant) (s : Sending) 
 unfolding sent
 sends_by c t g m s =
     record {
-      builds = λ b e. subst (Builds (length (datagramOf c g s)) b) (if_false _ e refl) (moved_builds c t g m s b);
+      builds = λ b e. subst (Builds (length (datagram_of c g s)) b) (if_false _ e refl) (moved_builds c t g m s b);
       refuses = λ b e. sym (if_true _ e refl);
     }

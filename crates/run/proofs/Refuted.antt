@@ -26,7 +26,7 @@ use Rattle.settings.specs.declared.settings.Settings.{Settings}
 use Rattle.run.specs.Calls.{Calls, Manual, AddRoute, DropAddress, Reset, ByHand}
 use Rattle.run.specs.Demand3.{Entry, Run, start, Throughout, After, Open, Since, never, since, later, counted, in_time, is_polled, told, Timely, adds, stepped, total, next, unless_lost, JustlyByHand, prefix_over, router_bad, table_full, prefix_in, bad_router, no_room, Demand3}
 use Rattle.run.specs.Wrong.{daily, hasty, refusing, unexpiring, entering, restless, clinging, keeping, unmeasured, processed_again, losing, linger, lingering, doubling, awaiting, hurry, hurrying, wiping, counting, late, smaller, unwrapped, boasting, misnumbering, muzzled, deaf, stubborn, rigid}
-use Rattle.run.proofs.Answers.{isAnswered, length_of}
+use Rattle.run.proofs.Answers.{is_answered, length_of}
 use Rattle.run.proofs.Sample.{plain, server, ack_with, reply_with, poll_into, poll_after, do_now, reply_now, from_fresh, until_ack, computing, plain_created}
 
 -- A list that takes at most 2^30 ms is timely, however its polls end.
@@ -109,7 +109,7 @@ pub hasty_fails : Demand3 hasty → ⊥
 unfolding computing unmeasured
 hasty_fails d =
     let wakes = ((first hasty refl d 0).polls _ refl).wakes in
-    false≢true (ap isAnswered (wakes.before [] tt (poll_into (0 ∷ []) 0) wakes.ahead).answered)
+    false≢true (ap is_answered (wakes.before [] tt (poll_into (0 ∷ []) 0) wakes.ahead).answered)
 
 never_nothing : (n m : ℕ) → 0 < n → m ≡ 0 → m ≡ n → ⊥
 never_nothing n m h e f = omega arith
@@ -235,7 +235,7 @@ hurrying_fails d =
     let owed = ((first hurrying refl d 0).polls _ refl).wakes.at no_day in
     let built = owed.builds [] tt tt (poll_into (replicate 556 0) 10000) refl owed.most in
     let n_is : 270 ≡ owed.n = ap length_of built.answered ∙ built.length in
-    false≢true (ap isAnswered (owed.builds [] tt tt (poll_into (replicate 300 0) 10000) refl (fits owed.n n_is)).answered)
+    false≢true (ap is_answered (owed.builds [] tt tt (poll_into (replicate 300 0) 10000) refl (fits owed.n n_is)).answered)
 
 -- Wipes the buffer; bumps the generation; answers a length.
 pub wiping_fails : Demand3 wiping → ⊥

@@ -39,7 +39,7 @@ use Rattle.judge.specs.Awaited.{offer_alone, ack_or_nak}
 use Rattle.lease.specs.Bound.{bound_by}
 use Rattle.client.specs.Taken.{holds, held_by, acked_as, acked, replied, processed}
 use Rattle.client.specs.Polls.{sent, polled_with}
-use Rattle.sending.specs.Sendings.{id_for, rand_after, renews_to, datagramFor}
+use Rattle.sending.specs.Sendings.{id_for, rand_after, renews_to, datagram_for}
 use Rattle.settings.specs.declared.settings.Settings.{Settings}
 use Rattle.settings.specs.declared.settings.Medium.TheVariants.{Ethernet}
 use Rattle.lease.specs.declared.lease.DhcpLease.{DhcpLease}
@@ -137,7 +137,7 @@ unfolding if◌then◌else◌ standard_waits before due earlier rest next_state 
     only all less_lost whole_addrs whole_routes whole_tables applied_addrs applied_routes admitted drop_address
     refusal_of lists_refusal size_refusal over_cap list_of maximum_of whole_lease created lease_fits whole_client whole_all cleared
     needing judged_offer judged_address judged_ack judged_kind judged_sender judged
-    bound_by holds held_by acked_as acked replied processed id_for rand_after renews_to datagramFor sent polled_with
+    bound_by holds held_by acked_as acked replied processed id_for rand_after renews_to datagram_for sent polled_with
     expired accepted_as lost_by plain offer ack_with lease_by
 computing = tt
 

@@ -21,10 +21,10 @@ use Rattle.machine.proofs.Timers.{Timers, Shows, Ahead, ahead_near, soonest, soo
 use Rattle.machine.proofs.Decisions.{Decides, nothing, sending, decides}
 use Rattle.tables.specs.declared.tables.Tables.{Tables}
 use Rattle.client.specs.Clients.{whole_all}
-use Rattle.client.specs.Polls.{PolledInto, datagramOf, refused_by, passed_by, polled_by, polled_with}
+use Rattle.client.specs.Polls.{PolledInto, datagram_of, refused_by, passed_by, polled_by, polled_with}
 use Rattle.client.specs.declared.client.Client.{Client}
 use Rattle.client.proofs.Wholes.{all_parts}
-use Rattle.client.proofs.Polling.{polled_whole, datagram-fits}
+use Rattle.client.proofs.Polling.{polled_whole, datagram_fits}
 use Rattle.settings.specs.declared.settings.Settings.{Settings}
 use Rattle.run.specs.Calls.{Post, Calls, Call, calls_with}
 use Rattle.run.specs.Demand3.{Entry, moment_after, CameTo, IfPolls, IfDoes, leaves, comes, adds, came_to, stepped, OnlyPolls, after, total, Quiet, Enough, NoneAt, Builds, Owed, Wakes}
@@ -148,8 +148,8 @@ module _ (w : Waits) (z : InRange w) (c : Client) (tb : Tables) (g : Rand) (t d 
   owed f =
       let m = (sends_at f).0 in
       let v = (sends_at f).1 in
-      let n = length (datagramOf c g m) in
-      let fits = datagram-fits c (all_parts c tb wh).0 g m in
+      let n = length (datagram_of c g m) in
+      let fits = datagram_fits c (all_parts c tb wh).0 g m in
       record {
         n = n;
         some = fits.0;

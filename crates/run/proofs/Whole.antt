@@ -25,7 +25,7 @@ use Rattle.lease.specs.Leases.{nothing}
 use Rattle.client.specs.Clients.{fresh, created_or, created, whole_all}
 use Rattle.client.specs.Taken.{held_by}
 use Rattle.message.specs.declared.datagram.Endpoints.{Endpoints}
-use Rattle.client.specs.Polls.{PolledInto, datagramOf, built_into, polled_with}
+use Rattle.client.specs.Polls.{PolledInto, datagram_of, built_into, polled_with}
 use Rattle.sending.specs.Sendings.{endpoints_of}
 use Rattle.settings.specs.declared.settings.Settings.{Settings}
 use Rattle.client.specs.declared.client.Client.{Client}
@@ -37,7 +37,7 @@ use Rattle.client.proofs.Effects.{gives}
 use Rattle.client.proofs.Polling.{moved_whole}
 use Rattle.run.specs.Calls.{Post, wake_of, calls_with, calls}
 use Rattle.run.specs.Demand3.{Entry, moment_after, poll_tells, CameTo, Polls, Does, Answers, IfPolls, leaves, tells, comes, adds, came_to, told, History, noted_all, Lost, lost_all, older, Run, next, start, Throughout, Since, never, later, is_polled, in_time, counted, Timely, Wakes, AfterPoll, After, Demand3}
-use Rattle.run.proofs.Answers.{isAnswered}
+use Rattle.run.proofs.Answers.{is_answered}
 use Rattle.run.proofs.Polls.{Outcome as Polls-to, refuses, idles, moves, outcome}
 use Rattle.run.proofs.Agreement.{Timing, in_time_lem, late, timing, lease_is, fitting}
 use Rattle.run.proofs.Entries.{lost_none}
@@ -66,7 +66,7 @@ module _ (w : Waits) (z : InRange w) where
     Rests r = (a : PollAnswer) → r.polled.outcome ≡ poll.Answered a → Rested t r.polled.client r.polled.tables a
 
     rested_by : {x : Timers} {r : PolledInto} → Polls-to c tb g b t x r → Shows x c.session.state → Rests r
-    rested_by refuses sh a e = absurd (false≢true (ap isAnswered e))
+    rested_by refuses sh a e = absurd (false≢true (ap is_answered e))
     rested_by {x} (idles q l v) sh a e = record { x = x; shows = sh; ahead = l; whole = v; wake_is = sym (ap wake_of e) ∙ ap moment q }
     rested_by (moves {m = m} {s = k} x' q go sh' l u v) sh a e =
         record {
@@ -74,7 +74,7 @@ module _ (w : Waits) (z : InRange w) where
           shows = sh';
           ahead = l;
           whole = moved_whole c tb v g b (moment m) k (fitting sh go c refl);
-          wake_is = sym (ap wake_of e) ∙ built_wake b (endpoints_of c.lease k) (datagramOf c g k) (moment m) ∙ ap moment q;
+          wake_is = sym (ap wake_of e) ∙ built_wake b (endpoints_of c.lease k) (datagram_of c g k) (moment m) ∙ ap moment q;
         }
 
     rests : in_time true gp → Rests (polled_with w c tb g (moment (wrap t)) b)

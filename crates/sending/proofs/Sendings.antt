@@ -18,14 +18,14 @@ use Rattle.message.specs.Written.{fitted, leaves, written, buffer_after}
 use Rattle.message.specs.declared.message.Answer.{Answer}
 use Rattle.message.specs.declared.message.Answer.TheVariants.{Length, Refused}
 use Rattle.message.proofs.Messages.{address_most}
-use Rattle.message.proofs.Datagrams.{datagram-length}
+use Rattle.message.proofs.Datagrams.{datagram_length}
 use Rattle.machine.specs.declared.decide.Sending.{Sending}
 use Rattle.machine.specs.declared.decide.Sending.TheVariants.{Discover, Request, Renew}
 use Rattle.settings.specs.Settings.{message_of, longest, longest_length, refusal_of}
 use Rattle.settings.specs.declared.settings.Settings.{Settings}
 use Rattle.settings.proofs.Refusals.{measuring, unrefused}
 use Rattle.lease.specs.declared.lease.DhcpLease.{DhcpLease}
-use Rattle.sending.specs.Sendings.{unspecified, draws, id_for, rand_after, drawn_for, fields_of, endpoints_of, body_of, datagramFor, wrote, left_in}
+use Rattle.sending.specs.Sendings.{unspecified, draws, id_for, rand_after, drawn_for, fields_of, endpoints_of, body_of, datagram_for, wrote, left_in}
 
 -- the id of a message, drawn or kept
 module _ (id : ℕ) (g : Rand) (s : Sending) where
@@ -39,8 +39,8 @@ module _ (id : ℕ) (g : Rand) (s : Sending) where
 
 -- what is left in the buffer, by the writer's answer
 pub left_by_lem : (settings : Settings) (lease : DhcpLease) (id : ℕ) (s : Sending) (buffer : List ℕ)
-    → left_in settings lease id s buffer ≡ leaves (wrote settings lease id s (length buffer)) (datagramFor settings lease id s) buffer
-unfolding left_in wrote datagramFor buffer_after
+    → left_in settings lease id s buffer ≡ leaves (wrote settings lease id s (length buffer)) (datagram_for settings lease id s) buffer
+unfolding left_in wrote datagram_for buffer_after
 left_by_lem settings lease id s buffer = refl
 
 -- no message is longer than the longest
@@ -60,18 +60,18 @@ module _ (settings : Settings) (h : refusal_of settings ≡ None) (lease : DhcpL
   body_fits (Request s) = (some_length settings request id unspecified (Some s.requested_ip) (Some s.server.identifier) _ _ _, below_longest settings request id unspecified (Some s.requested_ip) (Some s.server.identifier) _ _ _)
   body_fits (Renew s) = (some_length settings request id lease.address None None _ _ _, below_longest settings request id lease.address None None _ _ _)
 
-  pub datagram-size : (s : Sending) → length (datagramFor settings lease id s) ≡ 8 + length (body_of settings lease id s)
-  unfolding datagramFor
-  datagram-size s = datagram-length (endpoints_of lease s) settings.offload (body_of settings lease id s)
+  pub datagram_size : (s : Sending) → length (datagram_for settings lease id s) ≡ 8 + length (body_of settings lease id s)
+  unfolding datagram_for
+  datagram_size s = datagram_length (endpoints_of lease s) settings.offload (body_of settings lease id s)
 
   -- A message has from 1 to MTU − 20 octets, the UDP header among them.
-  pub datagram-fits : (s : Sending) → (0 < length (datagramFor settings lease id s)) × (length (datagramFor settings lease id s) ≤ settings.mtu - 20)
-  datagram-fits s =
+  pub datagram_fits : (s : Sending) → (0 < length (datagram_for settings lease id s)) × (length (datagram_for settings lease id s) ≤ settings.mtu - 20)
+  datagram_fits s =
       let b = body_fits s in
       let l = unrefused settings h in
       let m = l.counted.mtu in
       let r = l.room in
-      rw (datagram-size s) (omega arith, omega arith)
+      rw (datagram_size s) (omega arith, omega arith)
 
   fields_ask : (s : Sending) → (fields_of settings lease id s).asks ≡ true
   fields_ask (Discover s) = refl

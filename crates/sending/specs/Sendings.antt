@@ -65,8 +65,8 @@ abbrev pub body_of : Settings → DhcpLease → ℕ → Sending → List ℕ
 body_of settings lease id sending =
     message (fields_of settings lease id sending) (name_of settings) (list_of settings) (extra_of settings)
 
-unfoldable pub datagramFor : Settings → DhcpLease → ℕ → Sending → List ℕ
-datagramFor settings lease id sending =
+unfoldable pub datagram_for : Settings → DhcpLease → ℕ → Sending → List ℕ
+datagram_for settings lease id sending =
     datagram (endpoints_of lease sending) settings.offload (body_of settings lease id sending)
 
 -- What the writer answers, lent so many octets, and what it leaves in the buffer.

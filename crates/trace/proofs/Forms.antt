@@ -11,7 +11,7 @@ use Rattle.choice.specs.Choice.{if◌then◌else◌}
 use Rattle.trace.specs.Lines.{starts_with}
 use Rattle.trace.specs.Digits.{pairs_of}
 use Rattle.trace.specs.Numbers.{decimal, dotted, address, size_of}
-use Rattle.trace.specs.Forms.{percent, char_a, char_x, Part, letter, gap, parts_of, limit_of, number_of, of_number, octets_taken, gap_taken, letterTaken, taken, head_part, part_size}
+use Rattle.trace.specs.Forms.{percent, char_a, char_x, Part, letter, gap, parts_of, limit_of, number_of, of_number, octets_taken, gap_taken, letter_taken, taken, head_part, part_size}
 use Rattle.trace.specs.declared.number.Number.{Number}
 use Rattle.trace.specs.declared.number.Number.TheVariants as number
 use Rattle.trace.specs.declared.gap.Limit.{Limit}
@@ -99,14 +99,14 @@ gap_inside kind t = by (eqb kind char_x) (leb (pairs_of t) 65535)
     by true false = omega arith
     by false d = omega (arith, of_number_size (number_of kind t), number_inside kind t)
 
-letter-inside : (s : ℕ) (t : List ℕ) → taken_size (letterTaken s t) ≤ length t
-unfolding letterTaken if◌then◌else◌
-letter-inside s t = by (starts_with s t) refl
+letter_inside : (s : ℕ) (t : List ℕ) → taken_size (letter_taken s t) ≤ length t
+unfolding letter_taken if◌then◌else◌
+letter_inside s t = by (starts_with s t) refl
   where
     by : (b : Bool) → starts_with s t ≡ b → taken_size (if b then Letter else Stopped 0) ≤ length t
     by true e = starts_inside s 0 t e
     by false e = omega arith
 
 pub taken_inside : (part : Part) (t : List ℕ) → taken_size (taken part t) ≤ length t
-taken_inside (letter s) t = letter-inside s t
+taken_inside (letter s) t = letter_inside s t
 taken_inside (gap kind) t = gap_inside kind t

@@ -10,7 +10,7 @@ use borrow.Author.Tests.{le-leb, lt-leb}
 use Rattle.choice.proofs.Choices.{if_true, if_false}
 use Rattle.choice.specs.Choice.{if◌then◌else◌}
 use Rattle.trace.specs.Forms.{Part, parts_of, taken, head_part, part_size}
-use Rattle.trace.specs.Records.{most_values, padded, fitting, misfit, walk, recordOf}
+use Rattle.trace.specs.Records.{most_values, padded, fitting, misfit, walk, record_of}
 use Rattle.trace.specs.declared.gap.Taken.{Taken}
 use Rattle.trace.specs.declared.gap.Taken.TheVariants.{Stopped, Letter, Value, Octets}
 use Rattle.trace.specs.declared.record.Record.{Record}
@@ -75,13 +75,13 @@ pub record Walked (line form t f kept : List ℕ) (count place : ℕ) : Type 0 w
   pub counted : count ≡ length values
   pub room : count ≤ most_values
   pub there : place + length t ≡ length line
-  pub whole : recordOf form line ≡ walk (parts_of f) values place t
+  pub whole : record_of form line ≡ walk (parts_of f) values place t
 
 pub walked_start : (line form : List ℕ) → Walked line form line form (padded most_values []) 0 0
 walked_start line form = record { values = []; holds = refl; counted = refl; room = omega arith; there = omega arith; whole = refl }
 
 module _ {line form t f kept : List ℕ} {count place : ℕ} (w : Walked line form t f kept count place) where
-  onward : {n : ℕ} {r : Taken} → Step t f n r → recordOf form line ≡ after (parts_of (drop n f)) w.values place t r
+  onward : {n : ℕ} {r : Taken} → Step t f n r → record_of form line ≡ after (parts_of (drop n f)) w.values place t r
   onward {n} {r} s =
       w.whole ∙ ap (λ (ps : List Part). walk ps w.values place t) (parts_step f s.some)
       ∙ walk_step (head_part f) (parts_of (drop (part_size f) f)) w.values place t
@@ -129,18 +129,18 @@ module _ {line form t f kept : List ℕ} {count place : ℕ} (w : Walked line fo
       two = (λ k. set (first k) (sym longer k) pairs) ∙ padded_more most_values (w.values ++ (place ∷ [])) pairs (omega (arith, longer)) ∙ ap (padded most_values) (append_assoc w.values (place ∷ []) (pairs ∷ []))
 
   -- where the walk ends
-  pub walked_stop : {n size : ℕ} → Step t f n (Stopped size) → recordOf form line ≡ misfit (place + size)
+  pub walked_stop : {n size : ℕ} → Step t f n (Stopped size) → record_of form line ≡ misfit (place + size)
   walked_stop s = onward s
 
-  pub walked_full : {n v size : ℕ} → Step t f n (Value v size) → most_values < count + 1 → recordOf form line ≡ misfit place
+  pub walked_full : {n v size : ℕ} → Step t f n (Value v size) → most_values < count + 1 → record_of form line ≡ misfit place
   walked_full s h = onward s ∙ sym (if_false _ (lt-leb (length w.values + 1) most_values (omega (arith, w.counted))) refl)
 
-  pub walked_full_octets : {n pairs : ℕ} → Step t f n (Octets pairs) → most_values < count + 2 → recordOf form line ≡ misfit place
+  pub walked_full_octets : {n pairs : ℕ} → Step t f n (Octets pairs) → most_values < count + 2 → record_of form line ≡ misfit place
   walked_full_octets s h = onward s ∙ sym (if_false _ (lt-leb (length w.values + 2) most_values (omega (arith, w.counted))) refl)
 
-  pub walked_more : length f ≤ 0 → 0 < length t → recordOf form line ≡ misfit place
+  pub walked_more : length f ≤ 0 → 0 < length t → record_of form line ≡ misfit place
   walked_more h g = w.whole ∙ walk_more f t w.values place h g
 
-  pub walked_end : length f ≤ 0 → length t ≤ 0 → recordOf form line ≡ record { values = kept; count = count; column = place; fits = true }
+  pub walked_end : length f ≤ 0 → length t ≤ 0 → record_of form line ≡ record { values = kept; count = count; column = place; fits = true }
   unfolding fitting
   walked_end h g = w.whole ∙ walk_end f t w.values place h g ∙ (λ k. record { values = sym w.holds k; count = sym w.counted k; column = place; fits = true })

@@ -15,9 +15,9 @@ use Rattle.octets.proofs.Words.{joined32}
 use Rattle.trace.specs.Lines.{starts_with}
 use Rattle.trace.specs.Digits.{digit_of, octet_at}
 use Rattle.trace.specs.Numbers.{address}
-use Rattle.trace.specs.Forms.{char_a, char_b, char_c, char_h, char_q, char_w, char_x, Part, letter, gap, parts_of, limit_of, number_of, of_number, octets_taken, gap_taken, letterTaken, taken}
-use Rattle.trace.specs.Records.{most_values, fitting, walk, recordOf}
-use Rattle.trace.specs.Texts.{decimal_text, address_text, octets_text, Field, number, octets, field_text, recordText, field_values, recordValues, Fills, decimals, addresses, bytes, Filled, AllOctets, apart}
+use Rattle.trace.specs.Forms.{char_a, char_b, char_c, char_h, char_q, char_w, char_x, Part, letter, gap, parts_of, limit_of, number_of, of_number, octets_taken, gap_taken, letter_taken, taken}
+use Rattle.trace.specs.Records.{most_values, fitting, walk, record_of}
+use Rattle.trace.specs.Texts.{decimal_text, address_text, octets_text, Field, number, octets, field_text, record_text, field_values, record_values, Fills, decimals, addresses, bytes, Filled, AllOctets, apart}
 use Rattle.trace.specs.Written.{Wrote, width, field_of, fields_of, line_of, Given, given_none, given_letter, given_number, given_octets, Found, found_none, found_letter, found_number, found_octets, ReadBack}
 use Rattle.trace.specs.declared.gap.Limit.{Limit}
 use Rattle.trace.specs.declared.gap.Limit.TheVariants.{Unknown, Most}
@@ -79,8 +79,8 @@ field_taken_lem kind (octets os) rest (bytes o h) n =
     simp (read_pairs os rest o n, le-leb (length os) 65535 h)
 
 -- ---- a form whose gaps stand apart
-rest_no_digit : (kind : ℕ) (parts : List Part) (fields : List Field) → apart (gap kind ∷ parts) ≡ true → NoDigit (recordText parts fields)
-unfolding apart recordText if◌then◌else◌
+rest_no_digit : (kind : ℕ) (parts : List Part) (fields : List Field) → apart (gap kind ∷ parts) ≡ true → NoDigit (record_text parts fields)
+unfolding apart record_text if◌then◌else◌
 rest_no_digit kind [] fields e = tt
 rest_no_digit kind (gap other ∷ parts) fields e = absurd (true≢false (sym e))
 rest_no_digit kind (letter s ∷ parts) fields e = by (ltb (digit_of s) 16) refl e
@@ -99,9 +99,9 @@ rest_apart kind (letter s ∷ parts) e = by (ltb (digit_of s) 16) e
     by true q = absurd (true≢false (sym q))
     by false q = q
 
-letter-taken : (s : ℕ) (text : List ℕ) → taken (letter s) (s ∷ text) ≡ Letter
-unfolding letterTaken starts_with if◌then◌else◌
-letter-taken s text = simp (eq-eqb s s refl)
+letter_taken_lem : (s : ℕ) (text : List ℕ) → taken (letter s) (s ∷ text) ≡ Letter
+unfolding letter_taken starts_with if◌then◌else◌
+letter_taken_lem s text = simp (eq-eqb s s refl)
 
 -- ---- the walk, from any place on
 -- a gap that took its field goes on behind it
@@ -115,22 +115,22 @@ field_on kind (octets os) parts values place rest h =
     ∙ (λ k. walk parts (values ++ (place ∷ length os ∷ [])) (place + sym (octets_length os) k) (drop_at (octets_text os) rest (2 * length os) (octets_length os) k))
 
 walk_text : (parts : List Part) (fields : List Field) (values : List ℕ) (place : ℕ) → apart parts ≡ true → Filled parts fields
-    → length values + length (recordValues place parts fields) ≤ most_values
-    → walk parts values place (recordText parts fields) ≡ fitting (values ++ recordValues place parts fields) (place + length (recordText parts fields))
-unfolding apart Filled recordText recordValues walk
+    → length values + length (record_values place parts fields) ≤ most_values
+    → walk parts values place (record_text parts fields) ≡ fitting (values ++ record_values place parts fields) (place + length (record_text parts fields))
+unfolding apart Filled record_text record_values walk
 walk_text [] [] values place a f h = let z : place + 0 ≡ place = omega arith in rw (append-nil values, z)
 walk_text [] (field ∷ fields) values place a f h = absurd f
 walk_text (letter s ∷ parts) fields values place a f h =
-    let text = recordText parts fields in
+    let text = record_text parts fields in
     let size : place + 1 + length text ≡ place + suc (length text) = omega arith in
-    walk_step (letter s) parts values place (s ∷ text) ∙ ap (after parts values place (s ∷ text)) (letter-taken s text) ∙ walk_text parts fields values (place + 1) a f h
-    ∙ ap (fitting (values ++ recordValues (place + 1) parts fields)) size
+    walk_step (letter s) parts values place (s ∷ text) ∙ ap (after parts values place (s ∷ text)) (letter_taken_lem s text) ∙ walk_text parts fields values (place + 1) a f h
+    ∙ ap (fitting (values ++ record_values (place + 1) parts fields)) size
 walk_text (gap kind ∷ parts) [] values place a f h = absurd f
 walk_text (gap kind ∷ parts) (field ∷ fields) values place a f h =
     let text = field_text kind field in
-    let rest = recordText parts fields in
+    let rest = record_text parts fields in
     let here = field_values place field in
-    let more = recordValues (place + length text) parts fields in
+    let more = record_values (place + length text) parts fields in
     let room : length values + (length here + length more) ≤ most_values = omega (arith, length-append here more) in
     let ahead : length (values ++ here) + length more ≤ most_values = simp length-append (omega arith) in
     let size : place + length text + length rest ≡ place + length (text ++ rest) = simp length-append (omega arith) in
@@ -141,16 +141,16 @@ walk_text (gap kind ∷ parts) (field ∷ fields) values place a f h =
 
 -- A record as it is written fits its form, and holds what was written.
 pub read_written : (form : List ℕ) (fields : List Field) → apart (parts_of form) ≡ true → Filled (parts_of form) fields
-    → length (recordValues 0 (parts_of form) fields) ≤ most_values
-    → recordOf form (recordText (parts_of form) fields) ≡ fitting (recordValues 0 (parts_of form) fields) (length (recordText (parts_of form) fields))
+    → length (record_values 0 (parts_of form) fields) ≤ most_values
+    → record_of form (record_text (parts_of form) fields) ≡ fitting (record_values 0 (parts_of form) fields) (length (record_text (parts_of form) fields))
 read_written form fields a f h =
-    let size : 0 + length (recordText (parts_of form) fields) ≡ length (recordText (parts_of form) fields) = omega arith in
-    walk_text (parts_of form) fields [] 0 a f (omega arith) ∙ ap (fitting (recordValues 0 (parts_of form) fields)) size
+    let size : 0 + length (record_text (parts_of form) fields) ≡ length (record_text (parts_of form) fields) = omega arith in
+    walk_text (parts_of form) fields [] 0 a f (omega arith) ∙ ap (fitting (record_values 0 (parts_of form) fields)) size
 
 -- ---- lines as write_record writes them: one whose fields fit is read as those fields
 pub read_fields : (form values source : List ℕ) → apart (parts_of form) ≡ true → Filled (parts_of form) (fields_of (parts_of form) values source)
-    → length (recordValues 0 (parts_of form) (fields_of (parts_of form) values source)) ≤ most_values
-    → recordOf form (line_of form values source) ≡ fitting (recordValues 0 (parts_of form) (fields_of (parts_of form) values source)) (length (line_of form values source))
+    → length (record_values 0 (parts_of form) (fields_of (parts_of form) values source)) ≤ most_values
+    → record_of form (line_of form values source) ≡ fitting (record_values 0 (parts_of form) (fields_of (parts_of form) values source)) (length (line_of form values source))
 unfolding line_of
 read_fields form values source a f h = read_written form (fields_of (parts_of form) values source) a f h
 
@@ -194,27 +194,27 @@ module _ {source : List ℕ} where
   given_filled (given_number f g) = (f, given_filled g)
   given_filled (given_octets h f g) = (f, given_filled g)
 
-  given_length : {parts : List Part} {values : List ℕ} (g : Given source parts values) (at : ℕ) → length (recordValues at parts (given_fields g)) ≡ length values
-  unfolding recordValues
+  given_length : {parts : List Part} {values : List ℕ} (g : Given source parts values) (at : ℕ) → length (record_values at parts (given_fields g)) ≡ length values
+  unfolding record_values
   given_length given_none at = refl
   given_length (given_letter g) at = given_length g (at + 1)
   given_length (given_number f g) at = ap suc (given_length g _)
   given_length (given_octets h f g) at = ap (λ (n : ℕ). suc (suc n)) (given_length g _)
 
   -- where their texts stand in the line
-  given_found : {parts : List Part} {values : List ℕ} (g : Given source parts values) (line before : List ℕ) (at : ℕ) → at ≡ length before → line ≡ before ++ recordText parts (given_fields g)
-      → Found source line parts values (recordValues at parts (given_fields g))
-  unfolding recordValues recordText
+  given_found : {parts : List Part} {values : List ℕ} (g : Given source parts values) (line before : List ℕ) (at : ℕ) → at ≡ length before → line ≡ before ++ record_text parts (given_fields g)
+      → Found source line parts values (record_values at parts (given_fields g))
+  unfolding record_values record_text
   given_found given_none line before at p e = found_none
   given_found (given_letter {s} {parts} g) line before at p e =
-      found_letter (given_found g line (before ++ (s ∷ [])) (at + 1) (simp length-append (omega arith)) (e ∙ sym (append_assoc before (s ∷ []) (recordText parts (given_fields g)))))
+      found_letter (given_found g line (before ++ (s ∷ [])) (at + 1) (simp length-append (omega arith)) (e ∙ sym (append_assoc before (s ∷ []) (record_text parts (given_fields g)))))
   given_found (given_number {kind} {v} {parts} f g) line before at p e =
       let text = field_text kind (number v) in
-      found_number (number_not_x f) (given_found g line (before ++ text) (at + length text) (simp length-append (omega arith)) (e ∙ sym (append_assoc before text (recordText parts (given_fields g)))))
+      found_number (number_not_x f) (given_found g line (before ++ text) (at + length text) (simp length-append (omega arith)) (e ∙ sym (append_assoc before text (record_text parts (given_fields g)))))
   given_found (given_octets {place} {count} {parts} {values} h (bytes o b) g) line before at p e =
       let text = octets_text (take count (drop place source)) in
-      let rest = recordText parts (given_fields g) in
-      let found = recordValues (at + length text) parts (given_fields g) in
+      let rest = record_text parts (given_fields g) in
+      let found = record_values (at + length text) parts (given_fields g) in
       let more : Found source line parts values found = given_found g line (before ++ text) (at + length text) (simp length-append (omega arith)) (e ∙ sym (append_assoc before text rest)) in
       rw (at_hand place count source h) (found_octets (λ i k. (λ j. octet_at (p j + 2 * i) (e j)) ∙ octets_there place count i source before rest h o k) more)
 
@@ -224,10 +224,10 @@ pub read_line : (form : List ℕ) {values source : List ℕ} → apart (parts_of
 unfolding line_of
 read_line form {values} {source} a g h =
     let fields = given_fields g in
-    let text = recordText (parts_of form) fields in
+    let text = record_text (parts_of form) fields in
     rw (given_fields_lem g)
     record {
-      found = recordValues 0 (parts_of form) fields;
+      found = record_values 0 (parts_of form) fields;
       fits = read_written form fields a (given_filled g) (omega (arith, given_length g 0));
       same = given_found g text [] 0 refl refl;
     }
@@ -245,7 +245,7 @@ same_numbers (found_number {v = v} x f) n = ap (λ (l : List ℕ). v ∷ l) (sam
 same_numbers (found_octets there f) n = absurd (n.0 refl)
 
 pub read_numbers : (form : List ℕ) {values source : List ℕ} → apart (parts_of form) ≡ true → Given source (parts_of form) values → length values ≤ most_values → NoOctets (parts_of form)
-    → recordOf form (line_of form values source) ≡ fitting values (length (line_of form values source))
+    → record_of form (line_of form values source) ≡ fitting values (length (line_of form values source))
 read_numbers form {values} {source} a g h n =
     let back = read_line form a g h in
     back.fits ∙ ap (λ (l : List ℕ). fitting l (length (line_of form values source))) (same_numbers back.same n)

@@ -14,7 +14,7 @@ use Rattle.choice.proofs.Choices.{if_cases}
 use Rattle.octets.proofs.Runs.{part_tail}
 use Rattle.trace.specs.Numbers.{dot}
 use Rattle.trace.specs.Forms.{percent, char_a, char_x, Part, letter, gap, parts_of, head_part, part_size}
-use Rattle.trace.specs.Texts.{digit_char_of, chars_of, decimal_digits, decimal_text, dotted_text, address_text, octets_text, field_text, recordText}
+use Rattle.trace.specs.Texts.{digit_char_of, chars_of, decimal_digits, decimal_text, dotted_text, address_text, octets_text, field_text, record_text}
 use Rattle.trace.specs.Written.{Wrote, width, field_of, fields_of, line_of, part_text, part_width}
 use Rattle.trace.proofs.Forms.{head_letter, head_gap, parts_step}
 use Rattle.trace.proofs.Writers.{Onward, written}
@@ -91,8 +91,8 @@ pub some_past : (place count : ℕ) (source : List ℕ) → length source ≤ pl
 some_past place count source h = rw (drop_of_length-le source h) (take-nil count)
 
 -- ---- the first part of a form
-pub letter-width : (f : List ℕ) → (get_or f 0 0 ≡ percent → ⊥) → 0 ≡ part_width (head_part f)
-letter-width f n = ap part_width (sym (head_letter f n))
+pub letter_width : (f : List ℕ) → (get_or f 0 0 ≡ percent → ⊥) → 0 ≡ part_width (head_part f)
+letter_width f n = ap part_width (sym (head_letter f n))
 
 pub octets_width : (f : List ℕ) → get_or f 0 0 ≡ percent → get_or f 1 0 ≡ char_x → 2 ≡ part_width (head_part f)
 unfolding width if◌then◌else◌
@@ -108,8 +108,8 @@ few_values (letter c) = omega arith
 few_values (gap kind) = if_cases (λ (n : ℕ). n ≤ 2) (eqb kind char_x) (λ e. omega arith) (λ e. omega arith)
 
 -- what the part is written as
-pub letter-text : (f v s : List ℕ) → (get_or f 0 0 ≡ percent → ⊥) → part_text (head_part f) v s ≡ get_or f 0 0 ∷ []
-letter-text f v s n = ap (λ (part : Part). part_text part v s) (head_letter f n)
+pub letter_text : (f v s : List ℕ) → (get_or f 0 0 ≡ percent → ⊥) → part_text (head_part f) v s ≡ get_or f 0 0 ∷ []
+letter_text f v s n = ap (λ (part : Part). part_text part v s) (head_letter f n)
 
 pub gap_text : (f v s : List ℕ) → get_or f 0 0 ≡ percent → part_text (head_part f) v s ≡ field_text (get_or f 1 0) (field_of (get_or f 1 0) v s)
 gap_text f v s e = ap (λ (part : Part). part_text part v s) (head_gap f e)
@@ -133,8 +133,8 @@ dotted_pairs a b c d = append_assoc (decimal_text a) (dot ∷ decimal_text b) (d
 
 -- ---- a line by the first part of its form
 line_parts : (part : Part) (parts : List Part) (v s : List ℕ)
-    → recordText (part ∷ parts) (fields_of (part ∷ parts) v s) ≡ part_text part v s ++ recordText parts (fields_of parts (drop (part_width part) v) s)
-unfolding recordText fields_of
+    → record_text (part ∷ parts) (fields_of (part ∷ parts) v s) ≡ part_text part v s ++ record_text parts (fields_of parts (drop (part_width part) v) s)
+unfolding record_text fields_of
 line_parts (letter c) parts v s = refl
 line_parts (gap kind) parts v s = refl
 
@@ -151,10 +151,10 @@ line_step {n} {k} f v s h en ek =
     let part = head_part f in
     let rest : drop (part_size f) f ≡ take (length f - n) (drop n f) = ap (λ (i : ℕ). drop i f) (sym en) ∙ sym (part_tail n f) in
     let more : drop (part_width part) v ≡ take (length v - k) (drop k v) = sym (drop_most (part_width part) v) ∙ ap (λ (i : ℕ). drop i v) (sym ek) ∙ sym (part_tail k v) in
-    ap (λ (ps : List Part). recordText ps (fields_of ps v s)) (parts_step f h) ∙ line_parts part (parts_of (drop (part_size f) f)) v s
-    ∙ (λ i. part_text part v s ++ recordText (parts_of (rest i)) (fields_of (parts_of (rest i)) (more i) s))
+    ap (λ (ps : List Part). record_text ps (fields_of ps v s)) (parts_step f h) ∙ line_parts part (parts_of (drop (part_size f) f)) v s
+    ∙ (λ i. part_text part v s ++ record_text (parts_of (rest i)) (fields_of (parts_of (rest i)) (more i) s))
 
 pub written_line : {p r : ℕ} {text xs ys : List ℕ} (f v s : List ℕ) → Onward p text xs r (line_of f v s) ys → length f ≤ 0 → Wrote p text xs r ys
-unfolding line_of parts_of recordText
+unfolding line_of parts_of record_text
 written_line [] v s o h = written o
 written_line (c ∷ f) v s o h = absurd (omega arith)

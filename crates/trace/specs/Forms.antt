@@ -81,12 +81,12 @@ unfoldable pub gap_taken : ℕ → List ℕ → Taken
 gap_taken kind text = if eqb kind char_x then octets_taken text else of_number (number_of kind text)
 
 -- A character that stands as it is.
-unfoldable pub letterTaken : ℕ → List ℕ → Taken
-letterTaken s text = if starts_with s text then Letter else Stopped 0
+unfoldable pub letter_taken : ℕ → List ℕ → Taken
+letter_taken s text = if starts_with s text then Letter else Stopped 0
 
 -- What a part of a form takes of a text.
 abbrev pub taken : Part → List ℕ → Taken
-taken (letter s) text = letterTaken s text
+taken (letter s) text = letter_taken s text
 taken (gap kind) text = gap_taken kind text
 
 -- For contracts within this crate: the first part of a form that is not empty, and how many characters it is.

@@ -43,5 +43,5 @@ walk (part ∷ parts) values place line =
 
 -- What a line holds, by its form: its values, or the place at which it departs from the form. That is where a character is
 -- missing or another one stands, where a number that is none or too large begins, or where more follows than the form has.
-abbrev pub recordOf : List ℕ → List ℕ → Record
-recordOf form line = walk (parts_of form) [] 0 line
+abbrev pub record_of : List ℕ → List ℕ → Record
+record_of form line = walk (parts_of form) [] 0 line

@@ -48,22 +48,22 @@ field_text kind (number v) = if eqb kind char_a then address_text v else decimal
 field_text kind (octets os) = octets_text os
 
 -- The parts of a form with their gaps filled, in order.
-unfoldable pub recordText : List Part → List Field → List ℕ
-recordText [] fields = []
-recordText (letter s ∷ parts) fields = s ∷ recordText parts fields
-recordText (gap kind ∷ parts) [] = []
-recordText (gap kind ∷ parts) (field ∷ fields) = field_text kind field ++ recordText parts fields
+unfoldable pub record_text : List Part → List Field → List ℕ
+record_text [] fields = []
+record_text (letter s ∷ parts) fields = s ∷ record_text parts fields
+record_text (gap kind ∷ parts) [] = []
+record_text (gap kind ∷ parts) (field ∷ fields) = field_text kind field ++ record_text parts fields
 
 -- The values that a reader finds in that text, from a place of the line on.
 abbrev pub field_values : ℕ → Field → List ℕ
 field_values place (number v) = v ∷ []
 field_values place (octets os) = place ∷ length os ∷ []
 
-unfoldable pub recordValues : ℕ → List Part → List Field → List ℕ
-recordValues place [] fields = []
-recordValues place (letter s ∷ parts) fields = recordValues (place + 1) parts fields
-recordValues place (gap kind ∷ parts) [] = []
-recordValues place (gap kind ∷ parts) (field ∷ fields) = field_values place field ++ recordValues (place + length (field_text kind field)) parts fields
+unfoldable pub record_values : ℕ → List Part → List Field → List ℕ
+record_values place [] fields = []
+record_values place (letter s ∷ parts) fields = record_values (place + 1) parts fields
+record_values place (gap kind ∷ parts) [] = []
+record_values place (gap kind ∷ parts) (field ∷ fields) = field_values place field ++ record_values (place + length (field_text kind field)) parts fields
 
 -- Whether each of a list is an octet.
 abbrev pub AllOctets : List ℕ → Type 0

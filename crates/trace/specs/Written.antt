@@ -4,8 +4,8 @@ use Rattle.choice.specs.Choice.{if◌then◌else◌}
 use Rattle.octets.specs.declared.number.MaybeNumber.TheVariants.{Some}
 use Rattle.trace.specs.Digits.{octet_at}
 use Rattle.trace.specs.Forms.{char_x, Part, letter, gap, parts_of}
-use Rattle.trace.specs.Records.{fitting, recordOf}
-use Rattle.trace.specs.Texts.{Field, number, octets, field_text, recordText, Fills}
+use Rattle.trace.specs.Records.{fitting, record_of}
+use Rattle.trace.specs.Texts.{Field, number, octets, field_text, record_text, Fills}
 
 -- A text over the start of a buffer, cut where the buffer ends.
 unfoldable pub poured : List ℕ → List ℕ → List ℕ
@@ -43,7 +43,7 @@ fields_of (gap kind ∷ parts) values source = field_of kind values source ∷ f
 
 -- The line that values and octets give, by their form.
 unfoldable pub line_of : List ℕ → List ℕ → List ℕ → List ℕ
-line_of form values source = recordText (parts_of form) (fields_of (parts_of form) values source)
+line_of form values source = record_text (parts_of form) (fields_of (parts_of form) values source)
 
 -- For contracts within this crate: the text of a form's part, and how many values it takes.
 abbrev pub part_text : Part → List ℕ → List ℕ → List ℕ
@@ -74,5 +74,5 @@ pub data Found (source line : List ℕ) : List Part → List ℕ → List ℕ �
 -- A line that fits its form and gives back what was given.
 pub record ReadBack (form values source line : List ℕ) : Type 0 where
   pub found : List ℕ
-  pub fits : recordOf form line ≡ fitting found (length line)
+  pub fits : record_of form line ≡ fitting found (length line)
   pub same : Found source line (parts_of form) values found

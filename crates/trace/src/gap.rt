@@ -1,6 +1,6 @@
 // What a form asks next, and what it takes of a text: a character that stands as it is, or the value of a gap.
 ghost use Rattle.std.specs.Prelude.{◌≡◌, ◌<◌, length};
-ghost use Rattle.trace.specs.Forms.{limit_of, number_of, of_number, octets_taken, letterTaken, gap_taken, taken, head_part, part_size};
+ghost use Rattle.trace.specs.Forms.{limit_of, number_of, of_number, octets_taken, letter_taken, gap_taken, taken, head_part, part_size};
 
 use crate::digit::pair_count;
 use crate::line::starts;
@@ -97,7 +97,7 @@ fn gap_taken(kind: u8, text: &[u8]) -> Taken
 
 // A character that stands as it is.
 fn letter_taken(c: u8, text: &[u8]) -> Taken
-    ensures { result ≡ letterTaken c text.now }
+    ensures { result ≡ letter_taken c text.now }
 {
     if starts(text, c) {
         return Taken::Letter;

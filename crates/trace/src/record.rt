@@ -1,6 +1,6 @@
 // A line read along its form.
 ghost use Rattle.std.specs.Prelude.{◌≡◌};
-ghost use Rattle.trace.specs.Records.{misfit, recordOf};
+ghost use Rattle.trace.specs.Records.{misfit, record_of};
 
 use crate::gap::{Taken, next_taken, part_len};
 
@@ -32,7 +32,7 @@ fn misfit(column: usize) -> Record
 // What a line holds, by its form. The values are in the form's order; octets (%x) give two, the place of their first digit
 // and how many they are, and octet_at reads them.
 pub fn read_record(line: &[u8], form: &[u8]) -> Record
-    ensures { result ≡ recordOf form.now line.now }
+    ensures { result ≡ record_of form.now line.now }
 {
     let mut values = [0u64; MOST_VALUES];
     let mut count: usize = 0;

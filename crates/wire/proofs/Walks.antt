@@ -13,7 +13,7 @@ use lib.Dec.{eqb, ltb}
 use borrow.Author.Tests.{ltb-true, lt-ltb, eq-eqb, ne_eqb}
 use Rattle.choice.specs.Choice.{if◌then◌else◌}
 use Rattle.octets.specs.Items.{option}
-use Rattle.wire.specs.Options.{DhcpOption, head_item, options_from, first_with, option_data, dataAt, Finds}
+use Rattle.wire.specs.Options.{DhcpOption, head_item, options_from, first_with, option_data, data_at, Finds}
 use Rattle.wire.specs.Readings.{length_of}
 use Rattle.wire.specs.declared.reply.Length.TheVariants.{Octets}
 use Rattle.wire.specs.declared.options.Item.{Item}
@@ -113,7 +113,7 @@ found {reply} {code} {r} start size f e =
     (rw n g.holds, g.inside)
 
 pub found_none : {reply : List ℕ} {code : ℕ} {r : Found} → Finds reply code r → r ≡ Nothing → none ≡ option_data code reply
-found_none {reply} {code} {r} f e = ap (dataAt reply) (sym e) ∙ f.holds
+found_none {reply} {code} {r} f e = ap (data_at reply) (sym e) ∙ f.holds
 
 -- its length
 pub found_size : {reply : List ℕ} {code : ℕ} {r : Found} (start size : ℕ) → Finds reply code r → r ≡ At start size

@@ -53,9 +53,9 @@ abbrev pub option_data : ℕ → List ℕ → Option (List ℕ)
 option_data code reply = first_with code (options_of reply)
 
 -- For contracts within this crate, which no public one cites: the data that lies at a place of a reply.
-abbrev pub dataAt : List ℕ → Found → Option (List ℕ)
-dataAt reply Nothing = none
-dataAt reply (At start size) = some (take size (drop start reply))
+abbrev pub data_at : List ℕ → Found → Option (List ℕ)
+data_at reply Nothing = none
+data_at reply (At start size) = some (take size (drop start reply))
 
 abbrev pub Inside : List ℕ → Found → Type 0
 Inside reply Nothing = Unit {0}
@@ -63,5 +63,5 @@ Inside reply (At start size) = start + size ≤ length reply
 
 -- A place where the data of an option lies, within the reply.
 pub record Finds (reply : List ℕ) (code : ℕ) (r : Found) : Type 0 where
-  pub holds : dataAt reply r ≡ option_data code reply
+  pub holds : data_at reply r ≡ option_data code reply
   pub inside : Inside reply r

@@ -18,7 +18,7 @@ use Rattle.message.proofs.Messages.{message_length_lem}
 use Rattle.settings.specs.Settings.{name_of, list_of, extra_of}
 use Rattle.settings.specs.declared.settings.Settings.{Settings}
 use Rattle.lease.specs.declared.lease.DhcpLease.{DhcpLease}
-use Rattle.sending.specs.Sendings.{fields_of, body_of, datagramFor}
+use Rattle.sending.specs.Sendings.{fields_of, body_of, datagram_for}
 
 module _ (s : Settings) (hardware : length s.hardware ≡ 6) (unnamed : s.name_len ≡ 0) (unlisted : s.listed ≡ false) (plain : s.extra_len ≡ 0) where
   no_name : name_of s ≡ []
@@ -40,6 +40,6 @@ module _ (s : Settings) (hardware : length s.hardware ≡ 6) (unnamed : s.name_l
     unfolding name_option address_option size_option option_if if◌then◌else◌
     request_length r = rw (no_name, default_list, no_extra) (message_length_lem (fields_of s lease id (Request r)) [] (mask_code ∷ router_code ∷ dns_code ∷ []) [] hardware ∙ omega arith)
 
-    pub discover_udp_length : (d : DiscoverState) → word16 (get_or (datagramFor s lease id (Discover d)) 4 0) (get_or (datagramFor s lease id (Discover d)) 5 0) ≡ 270
-    unfolding datagramFor datagram
+    pub discover_udp_length : (d : DiscoverState) → word16 (get_or (datagram_for s lease id (Discover d)) 4 0) (get_or (datagram_for s lease id (Discover d)) 5 0) ≡ 270
+    unfolding datagram_for datagram
     discover_udp_length d = rw (discover_length d)

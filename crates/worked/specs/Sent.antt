@@ -15,7 +15,7 @@ use Rattle.settings.specs.Settings.{list_of, over_cap, size_refusal, lists_refus
 use Rattle.settings.specs.declared.settings.Settings.{Settings}
 use Rattle.settings.specs.declared.settings.Medium.TheVariants.{Ethernet}
 use Rattle.lease.specs.Leases.{no_lease}
-use Rattle.sending.specs.Sendings.{body_of, datagramFor}
+use Rattle.sending.specs.Sendings.{body_of, datagram_for}
 use Rattle.worked.specs.Starred.{Case, case}
 
 -- A client of MTU 1,500 and hardware address 02:00:00:00:00:01 that is given nothing else: no name, no request list, no
@@ -53,7 +53,7 @@ abbrev message_length : Sending → ℕ
 message_length sending = length (body_of post no_lease 1 sending)
 
 abbrev udp_length : Sending → ℕ
-udp_length sending = word16 (get_or (datagramFor post no_lease 1 sending) 4 0) (get_or (datagramFor post no_lease 1 sending) 5 0)
+udp_length sending = word16 (get_or (datagram_for post no_lease 1 sending) 4 0) (get_or (datagram_for post no_lease 1 sending) 5 0)
 
 -- Each quotes document 01.
 unfoldable sent : List Case
@@ -64,7 +64,7 @@ sent =
     ∷ []
 
 pub all_sent : map (λ c. c.given) sent ≡ map (λ c. c.stated) sent
-unfolding sent if◌then◌else◌ list_of datagramFor datagram message option_if address_option size_option name_option
+unfolding sent if◌then◌else◌ list_of datagram_for datagram message option_if address_option size_option name_option
 all_sent = refl
 
 pub post_taken : refusal_of post ≡ None

@@ -5,8 +5,8 @@ use lib.ListN.{length}
 use borrow.Author.Rules.{rules}
 use Rattle.message.specs.Messages.{message}
 use Rattle.message.specs.declared.message.Answer.TheVariants.{Length}
-use Rattle.message.proofs.Answers.{short, fits, over-room, refused, leaves-datagram, leaves_all}
-use Rattle.message.proofs.Datagrams.{datagram-length}
+use Rattle.message.proofs.Answers.{short, fits, over_room, refused, leaves_datagram, leaves_all}
+use Rattle.message.proofs.Datagrams.{datagram_length}
 use Rattle.message.proofs.Messages.{message_most}
 use Rattle.message.proofs.datagram.write_message.Statement.{statement}
 use Rattle.message.proofs.datagram.write_message.Tie as tie
@@ -29,7 +29,7 @@ add-if1 c =
 returns : tie.Need-returns
 returns c =
     let a = c.before.before.before.before.before.before.before.before.before.args in
-    let e = over-room a.m a.name.now a.list.now a.extra.now (sym c.before.before.before.before.message-len.ensures ∙ c.before.before.n.given.1) c.if1.true in
+    let e = over_room a.m a.name.now a.list.now a.extra.now (sym c.before.before.before.before.message-len.ensures ∙ c.before.before.n.given.1) c.if1.true in
     (sym e, sym (leaves_all a.m a.name.now a.list.now a.extra.now a.ends a.offload a.buf.now e))
 
 put-datagram-requires : tie.Need-put-datagram-requires
@@ -51,8 +51,8 @@ returns-2 c =
     let l = sym c.before.before.before.before.before.before.before.before.message-len.ensures ∙ c.before.before.before.before.before.before.n.given.1 in
     let s = short a.m a.name.now a.list.now a.extra.now l in
     let e = fits a.m a.name.now a.list.now a.extra.now l c.before.before.before.before.if1.false in
-    let r : c.before.before.put-datagram.result ≡ 8 + c.before.before.before.before.before.before.n.given.0.0 = omega (arith, datagram-length a.ends a.offload body, s.1) in
-    (ap Length r ∙ sym e, c.before.before.put-datagram.ensures.bytes ∙ sym (leaves-datagram a.m a.name.now a.list.now a.extra.now a.ends a.offload a.buf.now e))
+    let r : c.before.before.put-datagram.result ≡ 8 + c.before.before.before.before.before.before.n.given.0.0 = omega (arith, datagram_length a.ends a.offload body, s.1) in
+    (ap Length r ∙ sym e, c.before.before.put-datagram.ensures.bytes ∙ sym (leaves_datagram a.m a.name.now a.list.now a.extra.now a.ends a.offload a.buf.now e))
 
 returns-3 : tie.Need-returns-3
 returns-3 c =

@@ -15,7 +15,7 @@ letter-taken-requires : tie.Need-letter-taken-requires
 letter-taken-requires c κs = search rules
 
 returns : tie.Need-returns
-returns c = c.letter-taken.ensures ∙ ap (λ (part : Part). taken part c.before.before.before.before.before.before.args.text.now) (sym (head_letter c.before.before.before.before.before.before.args.form.now c.before.before.if1.true))
+returns c = c.letter_taken_lem.ensures ∙ ap (λ (part : Part). taken part c.before.before.before.before.before.before.args.text.now) (sym (head_letter c.before.before.before.before.before.before.args.form.now c.before.before.if1.true))
 
 returns-2 : tie.Need-returns-2
 returns-2 c = sym (head_cut c.before.before.before.before.before.args.form.now c.before.before.before.before.before.args.text.now c.before.if1.false c.if2.true)

@@ -1,5 +1,5 @@
 use borrow.Author.Rules.{rules}
-use Rattle.trace.proofs.Written.{letter-text, gap_text}
+use Rattle.trace.proofs.Written.{letter_text, gap_text}
 use Rattle.trace.proofs.write.put_part.Statement.{statement}
 use Rattle.trace.proofs.write.put_part.Tie as tie
 
@@ -18,7 +18,7 @@ same_length c = search rules
 returns : tie.Need-returns
 returns c =
     let a = c.before.before.before.before.before.before.before.before.before.before.before.args in
-    rw (letter-text a.form.now a.values.now a.source.now c.before.before.before.before.before.if1.true) c.before.before.put-char.ensures
+    rw (letter_text a.form.now a.values.now a.source.now c.before.before.before.before.before.if1.true) c.before.before.put-char.ensures
 
 kind-of-requires : tie.Need-kind-of-requires
 kind-of-requires c κs = search rules

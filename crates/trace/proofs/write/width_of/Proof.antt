@@ -1,6 +1,6 @@
 use borrow.Author.Rules.{rules}
 use mathlib.Core.Path.{sym, ◌∙◌}
-use Rattle.trace.proofs.Written.{letter-width, octets_width, number_width}
+use Rattle.trace.proofs.Written.{letter_width, octets_width, number_width}
 use Rattle.trace.proofs.write.width_of.Statement.{statement}
 use Rattle.trace.proofs.write.width_of.Tie as tie
 
@@ -8,7 +8,7 @@ shared-slice-read-if1 : tie.Need-shared-slice-read-if1
 shared-slice-read-if1 c = search rules
 
 returns : tie.Need-returns
-returns c = letter-width c.before.before.before.args.form.now c.if1.true
+returns c = letter_width c.before.before.before.args.form.now c.if1.true
 
 kind-of-requires : tie.Need-kind-of-requires
 kind-of-requires c κs = search rules
