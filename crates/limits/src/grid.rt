@@ -2,177 +2,176 @@
 // oracle/clock gets the same lines from the Rust. A duration is made of its number by from_millis, as the Rust makes it,
 // and the generator's seed has the first number in its upper half.
 use clock::{Clock, Duration, Instant, MaybeDuration, Rand};
-use libc::STDOUT_FILENO;
+use std::io;
 
 const NUMBERS: [u32; 15] = [
     0, 1, 999, 1000, 1001, 9999, 86400000, 1073741823, 1073741824, 1073741825, 2147483647,
     2147483648, 2147483649, 4294967294, 4294967295,
 ];
 
-pub fn all() {
-    header();
-    pairs();
+pub fn all(rt: &impl Print) -> io::Result<()> {
+    header(rt)?;
+    pairs(rt)
 }
 
-fn header() {
-    io::write_all(
-        STDOUT_FILENO,
-        b"a,b,Instant::from_secs,as_secs,subsec_millis,+,-,<,<=,checked_duration_since,",
-    );
-    io::write_all(
-        STDOUT_FILENO,
+fn header(rt: &impl Print) -> io::Result<()> {
+    rt.write_all(b"a,b,Instant::from_secs,as_secs,subsec_millis,+,-,<,<=,checked_duration_since,")?;
+    rt.write_all(
         b"duration_since,min,max,Duration::from_secs,as_secs,subsec_millis,is_zero,checked_add,",
-    );
-    io::write_all(
-        STDOUT_FILENO,
+    )?;
+    rt.write_all(
         b"checked_sub,saturating_add,saturating_sub,checked_mul,checked_div,saturating_mul,abs_diff,",
-    );
-    io::write_all(
-        STDOUT_FILENO,
+    )?;
+    rt.write_all(
         b"min,max,Clock::now,next,schedule,expired,next,after,next,Rand::rand_u32,rand_u16,state\n",
-    );
+    )
 }
 
-fn pairs() {
+fn pairs(rt: &impl Print) -> io::Result<()> {
     let mut n = 0;
     while n < 225 {
-        pair(NUMBERS[n / 15], NUMBERS[n % 15]);
+        pair(rt, NUMBERS[n / 15], NUMBERS[n % 15])?;
         n += 1;
     }
+    Ok(())
 }
 
-fn pair(a: u32, b: u32) {
-    io::print_decimal(STDOUT_FILENO, a as u64);
-    cell(b);
+fn pair(rt: &impl Print, a: u32, b: u32) -> io::Result<()> {
+    rt.print(a as u64)?;
+    cell(rt, b)?;
     instants(
+        rt,
         Instant::from_millis(a),
         Instant::from_millis(b),
         Duration::from_millis(b),
-    );
-    durations(Duration::from_millis(a), Duration::from_millis(b), b);
+    )?;
+    durations(rt, Duration::from_millis(a), Duration::from_millis(b), b)?;
     clocks(
+        rt,
         Clock::new(Instant::from_millis(a)),
         Instant::from_millis(b),
         Duration::from_millis(b),
-    );
-    draws(Rand::new(seed(a, b)));
-    io::write_all(STDOUT_FILENO, b"\n");
+    )?;
+    draws(rt, Rand::new(seed(a, b)))?;
+    rt.write_all(b"\n")
 }
 
 fn seed(a: u32, b: u32) -> u64 {
     (a as u64) * 4294967296 + (b as u64)
 }
 
-fn instants(a: Instant, b: Instant, wait: Duration) {
-    parts(a);
-    cell(a.add(wait).as_millis());
-    cell(a.sub(wait).as_millis());
-    truth(a.is_before(b));
-    truth(a.is_at_or_before(b));
-    apart(a, b);
+fn instants(rt: &impl Print, a: Instant, b: Instant, wait: Duration) -> io::Result<()> {
+    parts(rt, a)?;
+    cell(rt, a.add(wait).as_millis())?;
+    cell(rt, a.sub(wait).as_millis())?;
+    truth(rt, a.is_before(b))?;
+    truth(rt, a.is_at_or_before(b))?;
+    apart(rt, a, b)
 }
 
-fn parts(a: Instant) {
-    cell(Instant::from_secs(a.as_millis()).as_millis());
-    cell(a.as_secs());
-    cell(a.subsec_millis());
+fn parts(rt: &impl Print, a: Instant) -> io::Result<()> {
+    cell(rt, Instant::from_secs(a.as_millis()).as_millis())?;
+    cell(rt, a.as_secs())?;
+    cell(rt, a.subsec_millis())
 }
 
-fn apart(a: Instant, b: Instant) {
-    maybe(a.checked_duration_since(b));
-    cell(a.duration_since(b).as_millis());
-    cell(a.min(b).as_millis());
-    cell(a.max(b).as_millis());
+fn apart(rt: &impl Print, a: Instant, b: Instant) -> io::Result<()> {
+    maybe(rt, a.checked_duration_since(b))?;
+    cell(rt, a.duration_since(b).as_millis())?;
+    cell(rt, a.min(b).as_millis())?;
+    cell(rt, a.max(b).as_millis())
 }
 
-fn durations(a: Duration, b: Duration, n: u32) {
-    lengths(a);
-    sums(a, b);
-    products(a, n);
-    extremes(a, b);
+fn durations(rt: &impl Print, a: Duration, b: Duration, n: u32) -> io::Result<()> {
+    lengths(rt, a)?;
+    sums(rt, a, b)?;
+    products(rt, a, n)?;
+    extremes(rt, a, b)
 }
 
-fn lengths(a: Duration) {
-    cell(Duration::from_secs(a.as_millis()).as_millis());
-    cell(a.as_secs());
-    cell(a.subsec_millis());
-    truth(a.is_zero());
+fn lengths(rt: &impl Print, a: Duration) -> io::Result<()> {
+    cell(rt, Duration::from_secs(a.as_millis()).as_millis())?;
+    cell(rt, a.as_secs())?;
+    cell(rt, a.subsec_millis())?;
+    truth(rt, a.is_zero())
 }
 
-fn sums(a: Duration, b: Duration) {
-    maybe(a.checked_add(b));
-    maybe(a.checked_sub(b));
-    cell(a.saturating_add(b).as_millis());
-    cell(a.saturating_sub(b).as_millis());
+fn sums(rt: &impl Print, a: Duration, b: Duration) -> io::Result<()> {
+    maybe(rt, a.checked_add(b))?;
+    maybe(rt, a.checked_sub(b))?;
+    cell(rt, a.saturating_add(b).as_millis())?;
+    cell(rt, a.saturating_sub(b).as_millis())
 }
 
-fn products(a: Duration, n: u32) {
-    maybe(a.checked_mul(n));
-    maybe(a.checked_div(n));
-    cell(a.saturating_mul(n).as_millis());
+fn products(rt: &impl Print, a: Duration, n: u32) -> io::Result<()> {
+    maybe(rt, a.checked_mul(n))?;
+    maybe(rt, a.checked_div(n))?;
+    cell(rt, a.saturating_mul(n).as_millis())
 }
 
-fn extremes(a: Duration, b: Duration) {
-    cell(a.abs_diff(b).as_millis());
-    cell(a.min(b).as_millis());
-    cell(a.max(b).as_millis());
+fn extremes(rt: &impl Print, a: Duration, b: Duration) -> io::Result<()> {
+    cell(rt, a.abs_diff(b).as_millis())?;
+    cell(rt, a.min(b).as_millis())?;
+    cell(rt, a.max(b).as_millis())
 }
 
-fn clocks(clock: Clock, deadline: Instant, delay: Duration) {
-    cell(clock.now().as_millis());
-    cell(clock.next().as_millis());
-    cell(clock.schedule(deadline).next().as_millis());
-    asked(clock, deadline);
-    timed(clock, delay);
+fn clocks(rt: &impl Print, clock: Clock, deadline: Instant, delay: Duration) -> io::Result<()> {
+    cell(rt, clock.now().as_millis())?;
+    cell(rt, clock.next().as_millis())?;
+    cell(rt, clock.schedule(deadline).next().as_millis())?;
+    asked(rt, clock, deadline)?;
+    timed(rt, clock, delay)
 }
 
-fn asked(clock: Clock, deadline: Instant) {
+fn asked(rt: &impl Print, clock: Clock, deadline: Instant) -> io::Result<()> {
     let asked = clock.expired(deadline);
-    truth(asked.expired);
+    truth(rt, asked.expired)?;
     let after = asked.clock;
-    cell(after.next().as_millis());
+    cell(rt, after.next().as_millis())
 }
 
-fn timed(clock: Clock, delay: Duration) {
+fn timed(rt: &impl Print, clock: Clock, delay: Duration) -> io::Result<()> {
     let set = clock.after(delay);
     let deadline = set.deadline;
     let after = set.clock;
-    cell(deadline.as_millis());
-    cell(after.next().as_millis());
+    cell(rt, deadline.as_millis())?;
+    cell(rt, after.next().as_millis())
 }
 
-fn draws(rand: Rand) {
+fn draws(rt: &impl Print, rand: Rand) -> io::Result<()> {
     let first = rand.rand_u32();
-    cell(first.value);
+    cell(rt, first.value)?;
     let between = first.rand;
     let second = between.rand_u16();
-    cell(second.value as u32);
+    cell(rt, second.value as u32)?;
     let after = second.rand;
-    wide_cell(after.state);
+    wide_cell(rt, after.state)
 }
 
-fn maybe(d: MaybeDuration) {
+fn maybe(rt: &impl Print, d: MaybeDuration) -> io::Result<()> {
     match d {
         MaybeDuration::None => {
-            io::write_all(STDOUT_FILENO, b",none");
+            rt.write_all(b",none")?;
         }
-        MaybeDuration::Some(d) => cell(d.as_millis()),
+        MaybeDuration::Some(d) => cell(rt, d.as_millis())?,
     }
+    Ok(())
 }
 
-fn truth(holds: bool) {
+fn truth(rt: &impl Print, holds: bool) -> io::Result<()> {
     if holds {
-        cell(1);
+        cell(rt, 1)?;
     } else {
-        cell(0);
+        cell(rt, 0)?;
     }
+    Ok(())
 }
 
-fn cell(n: u32) {
-    wide_cell(n as u64);
+fn cell(rt: &impl Print, n: u32) -> io::Result<()> {
+    wide_cell(rt, n as u64)
 }
 
-fn wide_cell(n: u64) {
-    io::write_all(STDOUT_FILENO, b",");
-    io::print_decimal(STDOUT_FILENO, n);
+fn wide_cell(rt: &impl Print, n: u64) -> io::Result<()> {
+    rt.write_all(b",")?;
+    rt.print(n)
 }

@@ -3,8 +3,10 @@
 
 #![tactic(auto)]
 
+use std::io;
+
 mod grid;
 
-fn main() {
-    grid::all();
+fn main(rt: HostRuntime) -> io::Result<()> {
+    grid::all(&rt)
 }

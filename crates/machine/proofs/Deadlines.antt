@@ -1,5 +1,5 @@
 -- What a question to a poll's clock comes to, what is due while a lease lasts, and a wait that is doubled. Assumes nothing.
-use Prim.Native.Nat.{ℕ, zero, suc, ◌*◌, ◌%◌, ◌^◌, ◌<◌, ◌≤◌}
+use Prim.Native.Nat.{ℕ, zero, suc, ◌*◌, ◌^◌, ◌≤◌}
 use mathlib.Core.Path.{◌≡◌, refl, ap, ◌∙◌}
 use mathlib.Core.Bool.{true, false, not}
 use mathlib.Core.List.{[], ◌∷◌}
@@ -56,11 +56,6 @@ module _ (w : Waits) (s : RenewState) (k : Clock) (lasts : due s.expires_at.mill
 
 -- 30 doublings take any wait but zero to the longest duration
 module _ (first n : ℕ) where
-  pub few_doublings : n < 30 → clamp (first * (1 * 2 ^ n % 2 ^ 32)) ≡ clamp (first * 2 ^ n)
-  few_doublings h =
-      let fits : 2 ^ n ≤ 2 ^ 30 = pow-le-pow_right {n = 2} (omega arith) {j = 30} (omega arith) in
-      ap (λ (power : ℕ). clamp (first * power)) (omega arith)
-
   pub many_doublings : 30 ≤ n → clamp (first * 2 ^ 30) ≡ clamp (first * 2 ^ n)
   many_doublings h = by_first first (pow-le-pow_right {n = 2} (omega arith) h)
     where

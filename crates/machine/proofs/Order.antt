@@ -1,6 +1,6 @@
 -- Document 01: the moments of a lease "stand in the order ACK, renew, rebind, expiry when the maximum is absent or at least
 -- 8 ms".
-use Prim.Native.Nat.{ℕ, zero, suc, ◌-◌, ◌<◌, ◌≤◌, min}
+use Prim.Native.Nat.{ℕ, zero, suc, ◌<◌, ◌≤◌, min}
 use mathlib.Core.Path.{◌≡◌}
 use native.Mathlib.Omega.{arith}
 use borrow.Author.Tests.{ltb-true}

@@ -166,8 +166,8 @@ impl RenewState {
 
     // The same while the lease lasts, by a clock that has gathered its end.
     fn decide_unexpired(self, waits: Waits, clock: Clock) -> Decision
-        requires millis_value { due self.expires_at.millis clock.now.millis ≡ false }
-        requires next_value { clock.next ≡ moment (waking clock.now.millis (self.expires_at.millis ∷ [])) }
+        requires lasts { due self.expires_at.millis clock.now.millis ≡ false }
+        requires end_gathered { clock.next ≡ moment (waking clock.now.millis (self.expires_at.millis ∷ [])) }
         ensures { result ≡ decided_renewing waits self clock.now.millis }
     {
         let retry = clock.expired(self.retry_at());

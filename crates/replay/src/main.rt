@@ -4,7 +4,7 @@
 
 #![tactic(auto)]
 
-ghost use Rattle.std.specs.Prelude.{◌≡◌, length};
+ghost use Rattle.std.specs.Prelude.{◌≡◌, length, IfOk};
 
 mod calls;
 mod look;
@@ -12,23 +12,40 @@ mod stream;
 
 use sheet::rows;
 use sheet::rows::ROOM;
+use std::alloc::{AllocError, Global};
+use std::io;
 
-fn main() {
-    let mut text = space();
-    let mut out = space();
-    let mut sheet = [0u8; ROOM];
-    let mut lent = io::large_buffer();
-    replay(&mut text, &mut out, &mut sheet, &mut lent);
+// The longest buffer that is lent, and the longest reply.
+const LONGEST: usize = 65536;
+
+fn main(rt: HostRuntime) -> io::Result<()> {
+    let mut text = space(rt.alloc())?;
+    let mut out = space(rt.alloc())?;
+    let mut sheet = vec![in rt.alloc(); 0u8; ROOM]?;
+    let mut lent = vec![in rt.alloc(); 0u8; LONGEST]?;
+    replay(
+        &rt,
+        text.as_mut_slice(),
+        out.as_mut_slice(),
+        sheet.as_mut_slice(),
+        lent.as_mut_slice(),
+    )
 }
 
 // Room for a line of calls, and for an answer behind those that wait.
-fn space() -> [u8; 262144]
-    ensures { 262144 ≡ length result }
+fn space(alloc: Global) -> Result<Vec<u8>, AllocError>
+    ensures { IfOk result (λ v. 262144 ≡ length v.items) }
 {
-    [0; 262144]
+    vec![in alloc; 0u8; 262144]
 }
 
-fn replay(text: &mut [u8], out: &mut [u8], sheet: &mut [u8], lent: &mut [u8]) {
+fn replay(
+    rt: &(impl Input + Print + Eprint),
+    text: &mut [u8],
+    out: &mut [u8],
+    sheet: &mut [u8],
+    lent: &mut [u8],
+) -> io::Result<()> {
     rows::begin(sheet);
-    stream::run(text, out, sheet, lent);
+    stream::run(rt, text, out, sheet, lent)
 }

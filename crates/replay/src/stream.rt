@@ -1,9 +1,10 @@
 // Lines of calls from standard input, as they come, and their answers to standard output.
 use crate::calls::call;
-use libc::{STDERR_FILENO, STDIN_FILENO, STDOUT_FILENO};
 use octets::span::up_to;
 use sheet::forms::{GENERATOR, START, read_line};
 use sheet::rows::put_line;
+use std::io;
+use std::io::Read;
 use trace::{after_line, line_at};
 
 // How many octets of text are there, how many lines were read, how many octets of answers wait in `out`, and whether it goes on.
@@ -24,7 +25,13 @@ const ENOUGH: usize = 65536;
 const LINE_END: u8 = 10;
 
 // Reads and answers until the input ends or a record is malformed.
-pub fn run(text: &mut [u8], out: &mut [u8], sheet: &mut [u8], lent: &mut [u8]) {
+pub fn run(
+    rt: &(impl Input + Print + Eprint),
+    text: &mut [u8],
+    out: &mut [u8],
+    sheet: &mut [u8],
+    lent: &mut [u8],
+) -> io::Result<()> {
     let mut p = Progress {
         have: 0,
         lines: 0,
@@ -34,25 +41,28 @@ pub fn run(text: &mut [u8], out: &mut [u8], sheet: &mut [u8], lent: &mut [u8]) {
     let mut left: u64 = 18446744073709551615;
     while 0 < left {
         if !p.going {
-            return;
+            return Ok(());
         }
-        p = turn(p, text, out, sheet, lent);
+        p = turn(rt, p, text, out, sheet, lent)?;
         left -= 1;
     }
+    Ok(())
 }
 
 // One read, and the lines that are whole then. At the end of the input the last line may have no LF.
 fn turn(
+    rt: &(impl Input + Print + Eprint),
     p: Progress,
     text: &mut [u8],
     out: &mut [u8],
     sheet: &mut [u8],
     lent: &mut [u8],
-) -> Progress {
-    let f = fetch(text, p.have);
-    let q = lines(p, up_to(text, f.end), out, sheet, lent);
+) -> io::Result<Progress> {
+    let f = fetch(rt, text, p.have)?;
+    let q = lines(rt, p, up_to(text, f.end), out, sheet, lent)?;
     let have = shift(text, f.end, f.all);
     handed_on(
+        rt,
         Progress {
             have,
             lines: q.lines,
@@ -71,24 +81,22 @@ struct Fetched {
     more: bool,
 }
 
-fn fetch(text: &mut [u8], have: usize) -> Fetched {
-    let n = more(text, have);
+fn fetch(rt: &impl Input, text: &mut [u8], have: usize) -> io::Result<Fetched> {
+    let n = more(rt, text, have)?;
     let all = sum(have, n);
-    Fetched {
+    Ok(Fetched {
         all,
         end: whole(up_to(text, all), n),
         more: 0 < n,
-    }
+    })
 }
 
 // Reads behind what is there; how many octets. A line that fills all the room is over its limit.
-fn more(text: &mut [u8], have: usize) -> usize {
+fn more(rt: &impl Input, text: &mut [u8], have: usize) -> io::Result<usize> {
     if text.len() < have {
-        return 0;
+        return Ok(0);
     }
-    let rest = &mut text[have..];
-    let got = libc::read(STDIN_FILENO, rest);
-    io::count(got, rest)
+    rt.reader().read(&mut text[have..])
 }
 
 fn sum(a: usize, b: usize) -> usize {
@@ -128,21 +136,35 @@ fn shift(text: &mut [u8], from: usize, end: usize) -> usize {
     i
 }
 
-fn lines(p: Progress, text: &[u8], out: &mut [u8], sheet: &mut [u8], lent: &mut [u8]) -> Progress {
+fn lines(
+    rt: &(impl Print + Eprint),
+    p: Progress,
+    text: &[u8],
+    out: &mut [u8],
+    sheet: &mut [u8],
+    lent: &mut [u8],
+) -> io::Result<Progress> {
     let mut q = p;
     let mut at = 0;
     while at < text.len() {
-        q = line(q, line_at(text, at), out, sheet, lent);
+        q = line(rt, q, line_at(text, at), out, sheet, lent)?;
         if !q.going {
-            return q;
+            return Ok(q);
         }
         at = after_line(text, at);
     }
-    q
+    Ok(q)
 }
 
 // One line: passed over, or a record.
-fn line(p: Progress, line: &[u8], out: &mut [u8], sheet: &mut [u8], lent: &mut [u8]) -> Progress {
+fn line(
+    rt: &(impl Print + Eprint),
+    p: Progress,
+    line: &[u8],
+    out: &mut [u8],
+    sheet: &mut [u8],
+    lent: &mut [u8],
+) -> io::Result<Progress> {
     let q = Progress {
         have: p.have,
         lines: next(p.lines),
@@ -150,12 +172,12 @@ fn line(p: Progress, line: &[u8], out: &mut [u8], sheet: &mut [u8], lent: &mut [
         going: true,
     };
     if LONGEST_LINE < line.len() {
-        return stop(q, out, b"longer than 140000 characters", 0);
+        return stop(rt, q, out, "longer than 140000 characters", 0);
     }
     if is_passed_over(line) {
-        return q;
+        return Ok(q);
     }
-    record(q, line, out, sheet, lent)
+    record(rt, q, line, out, sheet, lent)
 }
 
 fn next(n: u64) -> u64 {
@@ -173,32 +195,40 @@ fn is_passed_over(line: &[u8]) -> bool {
 }
 
 // A record: it sets the post, or is a call and answered.
-fn record(p: Progress, line: &[u8], out: &mut [u8], sheet: &mut [u8], lent: &mut [u8]) -> Progress {
+fn record(
+    rt: &(impl Print + Eprint),
+    p: Progress,
+    line: &[u8],
+    out: &mut [u8],
+    sheet: &mut [u8],
+    lent: &mut [u8],
+) -> io::Result<Progress> {
     let r = read_line(line);
     let form = r.form;
     let v = r.values;
     if GENERATOR < form {
-        return stop(p, out, b"no record begins so", 1);
+        return stop(rt, p, out, "no record begins so", 1);
     }
     if !r.fits {
-        return stop(p, out, b"not as its form has it", from_one(r.column));
+        return stop(rt, p, out, "not as its form has it", from_one(r.column));
     }
     if form < START {
         let filled = call(sheet, lent, out, p.filled, line, form, v);
-        return answered(p, filled, out);
+        return answered(rt, p, filled, out);
     }
     if put_line(sheet, line, form, v) {
-        return p;
+        return Ok(p);
     }
     stop(
+        rt,
         p,
         out,
-        b"a table has 4 places, a hardware address 6 octets",
+        "a table has 4 places, a hardware address 6 octets",
         0,
     )
 }
 
-fn answered(p: Progress, filled: usize, out: &[u8]) -> Progress {
+fn answered(rt: &impl Print, p: Progress, filled: usize, out: &[u8]) -> io::Result<Progress> {
     let q = Progress {
         have: p.have,
         lines: p.lines,
@@ -206,35 +236,38 @@ fn answered(p: Progress, filled: usize, out: &[u8]) -> Progress {
         going: true,
     };
     if filled < ENOUGH {
-        return q;
+        return Ok(q);
     }
-    handed_on(q, out)
+    handed_on(rt, q, out)
 }
 
-fn handed_on(p: Progress, out: &[u8]) -> Progress {
-    let written = io::write_all(STDOUT_FILENO, up_to(out, p.filled));
-    Progress {
+fn handed_on(rt: &impl Print, p: Progress, out: &[u8]) -> io::Result<Progress> {
+    rt.write_all(up_to(out, p.filled))?;
+    Ok(Progress {
         have: p.have,
         lines: p.lines,
         filled: 0,
-        going: p.going & written,
-    }
+        going: p.going,
+    })
 }
 
 // Says which line is malformed, and where; nothing more is read.
-fn stop(p: Progress, out: &[u8], why: &[u8], column: usize) -> Progress {
-    let q = handed_on(p, out);
-    io::write_all(STDERR_FILENO, b"replay: line ");
-    io::print_decimal(STDERR_FILENO, q.lines);
-    io::write_all(STDERR_FILENO, b": ");
-    io::write_all(STDERR_FILENO, why);
-    say_column(column);
-    Progress {
+fn stop(
+    rt: &(impl Print + Eprint),
+    p: Progress,
+    out: &[u8],
+    why: &str,
+    column: usize,
+) -> io::Result<Progress> {
+    let q = handed_on(rt, p, out)?;
+    eprint!(rt; "replay: line {}: {why}", q.lines)?;
+    say_column(rt, column)?;
+    Ok(Progress {
         have: q.have,
         lines: q.lines,
         filled: 0,
         going: false,
-    }
+    })
 }
 
 // Columns are counted from 1.
@@ -245,10 +278,9 @@ fn from_one(column: usize) -> usize {
     column + 1
 }
 
-fn say_column(column: usize) {
+fn say_column(rt: &impl Eprint, column: usize) -> io::Result<()> {
     if 0 < column {
-        io::write_all(STDERR_FILENO, b" at column ");
-        io::print_decimal(STDERR_FILENO, column as u64);
+        eprint!(rt; " at column {column}")?;
     }
-    io::write_all(STDERR_FILENO, b"\n");
+    rt.eprint("\n")
 }

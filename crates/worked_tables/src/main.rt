@@ -6,49 +6,64 @@ use crate::made::{
     POST, ROUTER, entry, four_addresses, four_routes, lease, no_lease, with_addresses,
 };
 use crate::print::{by_hand, counted, has, print, print_addr, print_route, test};
+use std::io;
 use tables::Tables;
 
 mod leases;
 mod made;
 mod print;
 
-fn main() {
-    refused_routes();
-    refused_addresses();
-    five_addresses();
-    prefixes();
-    unused();
-    drops();
-    unmasked();
-    leases::examples();
-    looked_up();
+fn main(rt: HostRuntime) -> io::Result<()> {
+    refused_routes(&rt)?;
+    refused_addresses(&rt)?;
+    five_addresses(&rt)?;
+    prefixes(&rt)?;
+    unused(&rt)?;
+    drops(&rt)?;
+    unmasked(&rt)?;
+    leases::examples(&rt)?;
+    looked_up(&rt)
 }
 
 // "11 table full: fifth route"; "10 precedes 11"; 9 is tested first.
-fn refused_routes() {
+fn refused_routes(rt: &impl Print) -> io::Result<()> {
     let t = four_routes();
-    by_hand(b"fifth route", t.add_route(0, 0, ROUTER));
-    by_hand(b"fifth route, by 224.0.0.1", t.add_route(0, 0, 0xe0000001));
-    by_hand(b"the same of prefix 33", t.add_route(0, 33, 0xe0000001));
+    by_hand(rt, b"fifth route", t.add_route(0, 0, ROUTER))?;
+    by_hand(
+        rt,
+        b"fifth route, by 224.0.0.1",
+        t.add_route(0, 0, 0xe0000001),
+    )?;
+    by_hand(rt, b"the same of prefix 33", t.add_route(0, 33, 0xe0000001))?;
+    Ok(())
 }
 
 // "also a manual prefix over 32", of drops too.
-fn refused_addresses() {
+fn refused_addresses(rt: &impl Print) -> io::Result<()> {
     let t = four_addresses();
-    by_hand(b"fifth address", t.add_address(POST, 24));
-    by_hand(b"the same of prefix 33", t.add_address(POST, 33));
-    by_hand(b"10.0.0.1/33 dropped", t.drop_address(ROUTER, 33));
+    by_hand(rt, b"fifth address", t.add_address(POST, 24))?;
+    by_hand(rt, b"the same of prefix 33", t.add_address(POST, 33))?;
+    by_hand(rt, b"10.0.0.1/33 dropped", t.drop_address(ROUTER, 33))?;
+    Ok(())
 }
 
 // "5 addresses": every call and look-up is refused.
-fn five_addresses() {
+fn five_addresses(rt: &impl Print) -> io::Result<()> {
     let one = entry(POST, 24, false);
     let t = with_addresses([one; 4], 5);
-    by_hand(b"5 addresses, and another", t.add_address(POST, 24));
-    by_hand(b"5 addresses, a route dropped", t.drop_route(0, 0, ROUTER));
-    test(b"5 addresses are whole", t.is_whole());
-    counted(b"5 addresses, how many routes", t.route_count());
-    has(b"5 addresses, 10.0.0.50 among them", t.has_ip_addr(POST));
+    by_hand(rt, b"5 addresses, and another", t.add_address(POST, 24))?;
+    by_hand(
+        rt,
+        b"5 addresses, a route dropped",
+        t.drop_route(0, 0, ROUTER),
+    )?;
+    test(rt, b"5 addresses are whole", t.is_whole())?;
+    counted(rt, b"5 addresses, how many routes", t.route_count())?;
+    has(
+        rt,
+        b"5 addresses, 10.0.0.50 among them",
+        t.has_ip_addr(POST),
+    )
 }
 
 // Entries whose prefixes are over 32 but for the first.
@@ -61,76 +76,84 @@ fn long_prefixes(count: usize) -> Tables {
 }
 
 // A prefix over 32 counts where it is in use.
-fn prefixes() {
+fn prefixes(rt: &impl Print) -> io::Result<()> {
     let two = long_prefixes(2);
-    by_hand(b"prefix 33 in use", two.add_address(POST, 24));
+    by_hand(rt, b"prefix 33 in use", two.add_address(POST, 24))?;
     let one = long_prefixes(1);
-    by_hand(b"prefix 33 not in use", one.add_address(POST, 16));
+    by_hand(rt, b"prefix 33 not in use", one.add_address(POST, 16))?;
+    Ok(())
 }
 
 // What a written table holds where it is not in use: zeros, whatever was there.
-fn unused() {
+fn unused(rt: &impl Print) -> io::Result<()> {
     let t = long_prefixes(1);
     let changed = t.drop_address(POST, 24);
     let table = changed.tables.ip_addrs;
     let rest = table.entries;
     test(
+        rt,
         b"after a drop of the only one, the fourth address is 0",
         rest[3].address == 0,
-    );
-    test(b"its prefix is 0", rest[3].prefix == 0);
-    test(b"the third is DHCP's", rest[2].dhcp);
+    )?;
+    test(rt, b"its prefix is 0", rest[3].prefix == 0)?;
+    test(rt, b"the third is DHCP's", rest[2].dhcp)
 }
 
 // "drop manual ones (all with that address and prefix ...; none there is no refusal)"; DHCP's entry stays.
-fn drops() {
+fn drops(rt: &impl Print) -> io::Result<()> {
     let one = entry(POST, 24, false);
     let t = with_addresses([one, entry(POST, 24, true), entry(POST, 16, false), one], 4);
-    let left = by_hand(b"10.0.0.50/24 dropped", t.drop_address(POST, 24));
-    let same = by_hand(b"and once more", left.drop_address(POST, 24));
-    by_hand(b"10.0.0.50/24 added", same.add_address(POST, 24));
+    let left = by_hand(rt, b"10.0.0.50/24 dropped", t.drop_address(POST, 24))?;
+    let same = by_hand(rt, b"and once more", left.drop_address(POST, 24))?;
+    by_hand(rt, b"10.0.0.50/24 added", same.add_address(POST, 24))?;
+    Ok(())
 }
 
 // Addresses are compared as given, unmasked, and routes by their router too.
-fn unmasked() {
+fn unmasked(rt: &impl Print) -> io::Result<()> {
     let t = by_hand(
+        rt,
         b"10.1.2.3/8 added",
         Tables::new().add_address(0x0a010203, 8),
-    );
-    by_hand(b"10.0.0.0/8 dropped", t.drop_address(0x0a000000, 8));
+    )?;
+    by_hand(rt, b"10.0.0.0/8 dropped", t.drop_address(0x0a000000, 8))?;
     let r = by_hand(
+        rt,
         b"10.1.2.3/8 by 10.0.0.1 added",
         Tables::new().add_route(0x0a010203, 8, ROUTER),
-    );
+    )?;
     by_hand(
+        rt,
         b"10.1.2.3/8 by 10.0.0.2 dropped",
         r.drop_route(0x0a010203, 8, ROUTER + 1),
-    );
+    )?;
     by_hand(
+        rt,
         b"10.1.2.3/8 by 10.0.0.1 dropped",
         r.drop_route(0x0a010203, 8, ROUTER),
-    );
+    )?;
+    Ok(())
 }
 
 // Look-ups: how many, the entry at a place, whether an address is there, the default route.
-fn looked_up() {
+fn looked_up(rt: &impl Print) -> io::Result<()> {
     let t = four_addresses()
         .add_route(0, 0, 9)
         .tables
         .dhcpv4_apply(lease(POST, 24, ROUTER), no_lease())
         .tables;
-    counted(b"how many addresses", t.addr_count());
-    has(b"10.0.0.4 is there", t.has_ip_addr(0x0a000004));
-    has(b"10.0.0.50 is there", t.has_ip_addr(POST));
-    print(b"the fourth and the fifth:");
-    print_addr(t.addr_at(3));
-    print_addr(t.addr_at(4));
-    defaults(t);
+    counted(rt, b"how many addresses", t.addr_count())?;
+    has(rt, b"10.0.0.4 is there", t.has_ip_addr(0x0a000004))?;
+    has(rt, b"10.0.0.50 is there", t.has_ip_addr(POST))?;
+    print(rt, b"the fourth and the fifth:")?;
+    print_addr(rt, t.addr_at(3))?;
+    print_addr(rt, t.addr_at(4))?;
+    defaults(rt, t)
 }
 
-fn defaults(t: Tables) {
-    print(b"\nthe default routes, first ours:");
-    print_route(t.default_ipv4_route());
-    print_route(Tables::new().default_ipv4_route());
-    print(b"\n");
+fn defaults(rt: &impl Print, t: Tables) -> io::Result<()> {
+    print(rt, b"\nthe default routes, first ours:")?;
+    print_route(rt, t.default_ipv4_route())?;
+    print_route(rt, Tables::new().default_ipv4_route())?;
+    print(rt, b"\n")
 }
