@@ -7,7 +7,7 @@ use native.Mathlib.Omega.{arith}
 use lib.ListN.{length}
 use lib.Dec.{leb}
 use borrow.Author.Tests.{leb-true, leb-false, le-ltb, lt-ltb}
-use Rattle.choice.specs.Choice.{if◌then◌else◌}
+use Rattle.choice.specs.Choice.{when◌then◌else◌}
 use Rattle.clock.specs.declared.instant.Instant.{Instant}
 use Rattle.clock.specs.declared.rand.Rand.{Rand}
 use Rattle.clock.specs.declared.rand.Drawn32.{Drawn32}
@@ -122,7 +122,7 @@ module _ (c : Client) (t : Tables) where
   left_dropped m e f g h = rw (e, f, g, h) refl
 
   after_unmoved : (g : Rand) (o : PollOutcome) → after_change c t (unmoved c.session g o) ≡ record { client = c; tables = t; rand = g; outcome = o }
-  unfolding after_change if◌then◌else◌
+  unfolding after_change when◌then◌else◌
   after_unmoved g o = refl
 
   -- a Discover drops a lease that is held, and then link state is to be purged
@@ -133,8 +133,8 @@ module _ (c : Client) (t : Tables) where
   gone d s a r = record { client = with_session r.client (awaiting (Discover s) d.value); tables = r.tables; rand = d.rand; outcome = Answered (purging a r.purge) }
 
   after_discover : (d : Drawn32) (s : DiscoverState) (a : PollAnswer) (v : Bool)
-      → (if v then left_by (dropped c t) (going d s a v) else left_by (kept c t) (going d s a v)) ≡ gone d s a (if v then dropped c t else restarted c t)
-  unfolding if◌then◌else◌
+      → (when v then left_by (dropped c t) (going d s a v) else left_by (kept c t) (going d s a v)) ≡ gone d s a (when v then dropped c t else restarted c t)
+  unfolding when◌then◌else◌
   after_discover d s a true = refl
   after_discover d s a false = refl
 
@@ -159,7 +159,7 @@ module _ (c : Client) (t : Tables) (g : Rand) (wake : Instant) (s : Sending) (h 
   came_into b (Refused n) = ap (λ (x : Polled). record { polled = x; buffer = b }) (sym (after_unmoved c t g (outcome.Refused 8)))
 
   sent_into : (b : List ℕ) → sent c t g b wake s ≡ into c t (change_sent c g b wake s)
-  unfolding sent if◌then◌else◌
+  unfolding sent when◌then◌else◌
   sent_into [] = ap (λ (x : Polled). record { polled = x; buffer = [] }) (sym (after_moved c t (drawn c g wake s) s (silent wake)))
   sent_into (x ∷ xs) =
       let size = length (body_of c.settings c.lease (id_of c g s) s) in
@@ -185,7 +185,7 @@ module _ (c : Client) (t : Tables) (g : Rand) (now : Instant) (b : List ℕ) whe
 
   -- from the calls that make it
   pub poll_broken : whole_all c t ≡ false → (refusal c t g 9 ≡ (polled c t g now b).polled) × (b ≡ (polled c t g now b).buffer)
-  unfolding polled_with if◌then◌else◌
+  unfolding polled_with when◌then◌else◌
   poll_broken h = rw h (refl, refl)
 
   module _ {m : PollChange} {b' : List ℕ} (h : whole_all c t ≡ true) (o : (m ≡ (poll_change c g now b).change) × (b' ≡ (poll_change c g now b).buffer)) where

@@ -5,7 +5,7 @@ use mathlib.Core.Bool.{Bool, true, false, not, ◌&&◌}
 use mathlib.Core.List.{List}
 use native.Mathlib.Omega.{arith}
 use lib.Dec.{eqb}
-use Rattle.choice.specs.Choice.{if◌then◌else◌}
+use Rattle.choice.specs.Choice.{when◌then◌else◌}
 use Rattle.choice.proofs.Choices.{if_true, if_false, if_cases, both_true}
 use Rattle.clock.specs.Moments.{wrap}
 use Rattle.clock.specs.declared.instant.Instant.{Instant}
@@ -48,8 +48,8 @@ use Rattle.judge.proofs.Verdicts.{Reads, begun, Says, judged_says}
 
 -- DHCP's entries after a change of what the lease gives: the new ones, less any lost, where the value changed.
 pub record Entered (t t' : Tables) (old new : Installed) : Type 0 where
-  pub addrs : dhcp_addrs t' ≡ if same_cidr new.address old.address then dhcp_addrs t else less_lost (other_addrs t) (leased_addrs new.address)
-  pub routes : dhcp_routes t' ≡ if same_router new.router old.router then dhcp_routes t else less_lost (other_routes t) (leased_routes new.router)
+  pub addrs : dhcp_addrs t' ≡ when same_cidr new.address old.address then dhcp_addrs t else less_lost (other_addrs t) (leased_addrs new.address)
+  pub routes : dhcp_routes t' ≡ when same_router new.router old.router then dhcp_routes t else less_lost (other_routes t) (leased_routes new.router)
 
 pub entered_same : (t : Tables) (i : Installed) → Entered t t i i
 entered_same t i =

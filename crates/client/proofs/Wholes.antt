@@ -7,7 +7,7 @@ use mathlib.Core.Option.{Option, none, some}
 use native.Mathlib.Omega.{arith}
 use lib.ListN.{length-take}
 use borrow.Author.Tests.{le-ltb, le-leb}
-use Rattle.choice.specs.Choice.{if◌then◌else◌}
+use Rattle.choice.specs.Choice.{when◌then◌else◌}
 use Rattle.choice.proofs.Choices.{if_true, if_false, if_cases, both_true}
 use Rattle.clock.specs.declared.instant.Instant.{Instant}
 use Rattle.octets.specs.Codes.{dns_code}
@@ -94,14 +94,14 @@ unfolding whole_all
 all_parts c t h = both_true (whole_client c) h
 
 -- by the two tests
-both_tests : (a b : Bool) → a && b ≡ (if a then b else false)
-unfolding if◌then◌else◌
+both_tests : (a b : Bool) → a && b ≡ (when a then b else false)
+unfolding when◌then◌else◌
 both_tests true b = refl
 both_tests false b = refl
 
 pub tested : (c : Client) (t : Tables) {a b : Bool} → a ≡ whole_client c → b ≡ whole_tables t → a && b ≡ whole_all c t
 unfolding whole_all
-tested c t {a} {b} e f = both_tests a b ∙ ap (λ x. if x then b else false) e ∙ ap (λ x. if whole_client c then x else false) f
+tested c t {a} {b} e f = both_tests a b ∙ ap (λ x. when x then b else false) e ∙ ap (λ x. when whole_client c then x else false) f
 
 -- Creation returns a whole client.
 pub created_whole : (s : Settings) (ignoring : Bool) → refusal_of s ≡ None → whole_client (created s ignoring).client ≡ true

@@ -1,7 +1,7 @@
 -- What a poll changes, in the shape of the code: definitions for contracts within this crate. `polled` is the meaning of a
 -- poll; of a client and tables that are whole it is what `poll_change` leaves (proofs/Changes.antt, polled-by-change).
 use Rattle.std.specs.Prelude.{ℕ, Bool, false, List, [], ◌∷◌, length}
-use Rattle.choice.specs.Choice.{if◌then◌else◌}
+use Rattle.choice.specs.Choice.{when◌then◌else◌}
 use Rattle.clock.specs.declared.instant.Instant.{Instant}
 use Rattle.clock.specs.declared.rand.Rand.{Rand}
 use Rattle.clock.specs.declared.rand.Drawn32.{Drawn32}
@@ -90,4 +90,4 @@ left_by s m = record {
 }
 
 unfoldable pub after_change : Client → Tables → PollChange → Polled
-after_change c t m = if m.drops then left_by (dropped c t) m else left_by (kept c t) m
+after_change c t m = when m.drops then left_by (dropped c t) m else left_by (kept c t) m

@@ -1,6 +1,6 @@
 -- The client, its creation, and number 9.
 use Rattle.std.specs.Prelude.{Bool, true, false}
-use Rattle.choice.specs.Choice.{if◌then◌else◌}
+use Rattle.choice.specs.Choice.{when◌then◌else◌}
 use Rattle.octets.specs.declared.number.MaybeNumber.{MaybeNumber}
 use Rattle.octets.specs.declared.number.MaybeNumber.TheVariants.{None, Some}
 use Rattle.machine.specs.States.{has_lease}
@@ -57,7 +57,7 @@ created settings ignoring = created_or (refusal_of settings) settings ignoring
 
 -- The lease is read in Renewing alone.
 unfoldable pub lease_fits : ClientState → DhcpLease → Bool
-lease_fits state lease = if has_lease state then whole_lease lease else true
+lease_fits state lease = when has_lease state then whole_lease lease else true
 
 -- 9, of a client: a setting that 1 to 7 refuse, or a lease that is read and is not whole.
 abbrev pub whole_or : MaybeNumber → Bool → Bool
@@ -69,4 +69,4 @@ whole_client c = whole_or (refusal_of c.settings) (lease_fits c.session.state c.
 
 -- 9, of a client and its tables: what every call on the two tests first.
 unfoldable pub whole_all : Client → Tables → Bool
-whole_all c t = if whole_client c then whole_tables t else false
+whole_all c t = when whole_client c then whole_tables t else false

@@ -1,6 +1,6 @@
 -- What can be looked up of a client; 9 where it is not whole.
 use Rattle.std.specs.Prelude.{ℕ, not}
-use Rattle.choice.specs.Choice.{if◌then◌else◌}
+use Rattle.choice.specs.Choice.{when◌then◌else◌}
 use Rattle.wire.specs.Stored.{got}
 use Rattle.wire.specs.declared.store.Got.{Got}
 use Rattle.wire.specs.declared.store.Got.TheVariants as found
@@ -20,17 +20,17 @@ not_held held = record { lease = no_lease; held = held }
 
 unfoldable pub lease_held : Client → Leased
 lease_held c =
-    if not (whole_client c) then not_held (has.Refused 9)
-    else if has_lease c.session.state then record { lease = c.lease; held = has.Yes }
+    when not (whole_client c) then not_held (has.Refused 9)
+    else when has_lease c.session.state then record { lease = c.lease; held = has.Yes }
     else not_held has.No
 
 -- The first stored option of a kind.
 unfoldable pub option_held : Client → ℕ → Got
 option_held c kind =
-    if not (whole_client c) then found.Refused 9
-    else if has_lease c.session.state then got c.lease.options kind
+    when not (whole_client c) then found.Refused 9
+    else when has_lease c.session.state then got c.lease.options kind
     else found.Absent
 
 -- The state, with its deadlines.
 unfoldable pub standing : Client → Standing
-standing c = if not (whole_client c) then Refused 9 else In c.session.state
+standing c = when not (whole_client c) then Refused 9 else In c.session.state

@@ -1,7 +1,7 @@
 -- A poll (document 01, "Polling"): what is due, its message, its length; then it is refused, passed by, or written. `polled`,
 -- the last definition, is the whole.
 use Rattle.std.specs.Prelude.{ℕ, Bool, true, false, not, List, [], ◌∷◌, length, ltb}
-use Rattle.choice.specs.Choice.{if◌then◌else◌}
+use Rattle.choice.specs.Choice.{when◌then◌else◌}
 use Rattle.clock.specs.declared.instant.Instant.{Instant}
 use Rattle.clock.specs.declared.rand.Rand.{Rand}
 use Rattle.clock.specs.declared.rand.Drawn32.{Drawn32}
@@ -113,7 +113,7 @@ too_short (x ∷ xs) size = ltb (length (x ∷ xs)) size
 
 unfoldable pub sent : Client → Tables → Rand → List ℕ → Instant → Sending → PolledInto
 sent c t g buffer wake sending =
-    if too_short buffer (length (datagram_of c g sending)) then refused_by c t g buffer 8
+    when too_short buffer (length (datagram_of c g sending)) then refused_by c t g buffer 8
     else moved c t g buffer wake sending
 
 abbrev pub polled_as : Client → Tables → Rand → List ℕ → Instant → Due → PolledInto
@@ -126,7 +126,7 @@ polled_by c t g buffer decision = polled_as c t g buffer decision.wake decision.
 -- The call with any waits: 9 first.
 unfoldable pub polled_with : Waits → Client → Tables → Rand → Instant → List ℕ → PolledInto
 polled_with w c t g now buffer =
-    if not (whole_all c t) then refused_by c t g buffer 9
+    when not (whole_all c t) then refused_by c t g buffer 9
     else polled_by c t g buffer (decided w c.session.state now.millis)
 
 -- The call, with the client's own waits.

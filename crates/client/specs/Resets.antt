@@ -1,6 +1,6 @@
 -- Resets (document 01): the lease is dropped, if one is held, and the client starts over.
 use Rattle.std.specs.Prelude.{false, not}
-use Rattle.choice.specs.Choice.{if◌then◌else◌}
+use Rattle.choice.specs.Choice.{when◌then◌else◌}
 use Rattle.machine.specs.States.{has_lease}
 use Rattle.machine.specs.declared.state.ClientState.TheVariants.{Init}
 use Rattle.tables.specs.Applied.{applied}
@@ -25,7 +25,7 @@ dropped c t = record {
 }
 
 unfoldable pub cleared : Client → Tables → Settled
-cleared c t = if has_lease c.session.state then dropped c t else restarted c t
+cleared c t = when has_lease c.session.state then dropped c t else restarted c t
 
 -- The call: 9, and then client and tables are as they came.
 abbrev pub reset_done : Settled → WasReset
@@ -33,5 +33,5 @@ reset_done s = record { client = s.client; tables = s.tables; outcome = Done s.p
 
 unfoldable pub was_reset : Client → Tables → WasReset
 was_reset c t =
-    if not (whole_all c t) then record { client = c; tables = t; outcome = Refused 9 }
+    when not (whole_all c t) then record { client = c; tables = t; outcome = Refused 9 }
     else reset_done (cleared c t)

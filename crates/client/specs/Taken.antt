@@ -1,6 +1,6 @@
 -- What a reply that is taken does to the client and its tables (document 01, "Reading a reply").
 use Rattle.std.specs.Prelude.{ℕ, Bool, false, not, List}
-use Rattle.choice.specs.Choice.{if◌then◌else◌}
+use Rattle.choice.specs.Choice.{when◌then◌else◌}
 use Rattle.clock.specs.declared.instant.Instant.{Instant}
 use Rattle.machine.specs.States.{has_lease, requesting}
 use Rattle.machine.specs.declared.state.ClientState.{ClientState}
@@ -36,10 +36,10 @@ server_of (Renewing s) lease sender = lease.server
 
 -- Whether a lease is the one that is held, and what the one that is held has put into the tables.
 unfoldable pub holds : ClientState → DhcpLease → DhcpLease → Bool
-holds state held lease = if has_lease state then same_lease lease held else false
+holds state held lease = when has_lease state then same_lease lease held else false
 
 unfoldable pub held_by : ClientState → DhcpLease → Installed
-held_by state held = if has_lease state then installed held else nothing
+held_by state held = when has_lease state then installed held else nothing
 
 -- Another lease, in the place of the one that is held, if one is.
 abbrev pub entered : Client → Tables → Session → DhcpLease → Settled
@@ -53,7 +53,7 @@ entered c t session lease = record {
 -- moves the moments, ends rebinding as any accepted ACK does, and changes nothing else."
 unfoldable pub acked_as : Client → Tables → Session → DhcpLease → Settled
 acked_as c t session lease =
-    if holds c.session.state c.lease lease then record { client = with_session c session; tables = t; purge = false }
+    when holds c.session.state c.lease lease then record { client = with_session c session; tables = t; purge = false }
     else entered c t session lease
 
 abbrev pub ack_lease : Client → List ℕ → Acked → DhcpLease
@@ -92,5 +92,5 @@ recipient_of c = record {
 -- The call: 9 first, and then client and tables are as they came.
 unfoldable pub processed : Client → Tables → ℕ → List ℕ → Instant → Processed
 processed c t source reply moment =
-    if not (whole_all c t) then record { client = c; tables = t; outcome = outcome.Refused 9 }
+    when not (whole_all c t) then record { client = c; tables = t; outcome = outcome.Refused 9 }
     else replied c t reply moment (judged (recipient_of c) source reply)

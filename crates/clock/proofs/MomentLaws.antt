@@ -2,7 +2,7 @@
 use Rattle.std.proofs.Common.{◌≡◌, ℕ, suc, ◌+◌, ◌-◌, ◌^◌, ◌<◌, ◌≤◌, min, max, Bool, true, false, eqb, ltb, leb, sym, refl, ap, ◌∙◌, lt_of_not-le, arith, ltb-false, ltb-true, eqb-true, le-leb, leb-false, leb-true}
 use native.Mathlib.Decide.{dec_le}
 use borrow.Author.Tests.{eqb-false, lt-leb}
-use Rattle.choice.specs.Choice.{if◌then◌else◌}
+use Rattle.choice.specs.Choice.{when◌then◌else◌}
 use Rattle.clock.specs.Durations.{longest, clamp}
 use Rattle.clock.specs.Moments.{wrap, plus, gap, negative, before, due, rest, earlier, later}
 use Rattle.choice.proofs.Choices.{if_true, if_false}
@@ -20,7 +20,7 @@ pub due_by_gap : (d n : ℕ) → d < 2 ^ 32 → n < 2 ^ 32 → leb (gap n d) (2 
 unfolding due before
 due_by_gap d n p q = by_test (eqb d n) refl
   where
-    by_test : (e : Bool) → eqb d n ≡ e → leb (gap n d) (2 ^ 31) ≡ if eqb d n then true else negative (gap d n)
+    by_test : (e : Bool) → eqb d n ≡ e → leb (gap n d) (2 ^ 31) ≡ when eqb d n then true else negative (gap d n)
     by_test true e = if_true _ e (le-leb (gap n d) (2 ^ 31) (omega (arith, eqb-true d n e)))
     by_test false e =
         if_false _ e (leb_iff (gap n d) (2 ^ 31) (2 ^ 31) (gap d n) (λ h. omega (arith, eqb-false d n e)) (λ h. omega arith))
@@ -47,7 +47,7 @@ module _ (a b : ℕ) (p : a < b + 2 ^ 31) (q : b < a + 2 ^ 31) where
   unfolding rest
   rest_near = sym (by_test (ltb a b) refl)
     where
-      by_test : (e : Bool) → ltb a b ≡ e → clamp (a - b) ≡ if before (wrap a) (wrap b) then 0 else clamp (gap (wrap a) (wrap b))
+      by_test : (e : Bool) → ltb a b ≡ e → clamp (a - b) ≡ when before (wrap a) (wrap b) then 0 else clamp (gap (wrap a) (wrap b))
       by_test true e = if_true _ (before_near ∙ e) (omega (arith, ltb-true a b e))
       by_test false e = if_false _ (before_near ∙ e) (ap clamp (sym (gap_near a b (ltb-false a b e) (omega arith))))
 
@@ -55,7 +55,7 @@ pub earlier_near : (a b : ℕ) → a < b + 2 ^ 31 → b < a + 2 ^ 31 → earlier
 unfolding earlier
 earlier_near a b p q = sym (by_test (ltb b a) refl)
   where
-    by_test : (e : Bool) → ltb b a ≡ e → wrap (min a b) ≡ if before (wrap b) (wrap a) then wrap b else wrap a
+    by_test : (e : Bool) → ltb b a ≡ e → wrap (min a b) ≡ when before (wrap b) (wrap a) then wrap b else wrap a
     by_test true e = if_true _ (before_near b a q p ∙ e) (ap wrap (omega (arith, ltb-true b a e)))
     by_test false e = if_false _ (before_near b a q p ∙ e) (ap wrap (omega (arith, ltb-false b a e)))
 
@@ -63,11 +63,11 @@ pub later_near : (a b : ℕ) → a < b + 2 ^ 31 → b < a + 2 ^ 31 → later (wr
 unfolding later
 later_near a b p q = sym (by_test (leb b a) refl)
   where
-    by_test : (e : Bool) → leb b a ≡ e → wrap (max a b) ≡ if due (wrap b) (wrap a) then wrap a else wrap b
+    by_test : (e : Bool) → leb b a ≡ e → wrap (max a b) ≡ when due (wrap b) (wrap a) then wrap a else wrap b
     by_test true e = if_true _ (due_near b a q p ∙ e) (ap wrap (omega (arith, leb-true b a e)))
     by_test false e = if_false _ (due_near b a q p ∙ e) (ap wrap (omega (arith, leb-false b a e)))
 
 -- 0, 1,500,000,000 and 3,000,000,000: each is before the next, and the last before the first.
 pub earlier_not_associative : (earlier (earlier 0 1500000000) 3000000000 ≡ 3000000000) × (earlier 0 (earlier 1500000000 3000000000) ≡ 0)
-unfolding earlier before if◌then◌else◌
+unfolding earlier before when◌then◌else◌
 earlier_not_associative = (refl, refl)

@@ -1,6 +1,6 @@
 -- The clock of a single poll: document 01's "The waking moment is the earliest open deadline, at most 86,400,000 ms on."
 use Rattle.std.specs.Prelude.{ℕ, true, false}
-use Rattle.choice.specs.Choice.{if◌then◌else◌}
+use Rattle.choice.specs.Choice.{when◌then◌else◌}
 use Rattle.clock.specs.Moments.{plus, due, earlier, moment}
 use Rattle.clock.specs.declared.clock.Clock.{Clock}
 use Rattle.clock.specs.declared.clock.Expired.{Expired}
@@ -21,7 +21,7 @@ gathering c deadline = record { now = c.now; next = moment (earlier c.next.milli
 -- Whether a deadline has come; one that has not is gathered.
 unfoldable pub expired_at : Clock → ℕ → Expired
 expired_at c deadline =
-    if due deadline c.now.millis then record { expired = true; clock = c }
+    when due deadline c.now.millis then record { expired = true; clock = c }
     else record { expired = false; clock = gathering c deadline }
 
 -- A deadline set a wait from now, and gathered.

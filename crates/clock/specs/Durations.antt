@@ -1,6 +1,6 @@
 -- Durations: milliseconds, at most 1,073,741,824 (document 01, src/time.rs).
 use Rattle.std.specs.Prelude.{ℕ, ◌*◌, min, Bool}
-use Rattle.choice.specs.Choice.{if◌then◌else◌}
+use Rattle.choice.specs.Choice.{when◌then◌else◌}
 use Rattle.clock.specs.declared.duration.Duration.{Duration}
 use Rattle.clock.specs.declared.duration.MaybeDuration.{MaybeDuration}
 use Rattle.clock.specs.declared.duration.MaybeDuration.TheVariants.{None, Some}
@@ -23,4 +23,4 @@ duration millis = record { millis = millis }
 
 -- What a checked operation gives: none where the test says so, else the duration of so many milliseconds.
 unfoldable pub none_if : Bool → ℕ → MaybeDuration
-none_if test millis = if test then None else Some (duration millis)
+none_if test millis = when test then None else Some (duration millis)

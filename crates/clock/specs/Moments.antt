@@ -1,6 +1,6 @@
 -- Moments: 32-bit milliseconds that wrap (document 01, src/time.rs). A moment is a number below 2^32.
 use Rattle.std.specs.Prelude.{ℕ, ◌+◌, ◌-◌, ◌%◌, ◌^◌, Bool, true, ◌==◌, nat_le}
-use Rattle.choice.specs.Choice.{if◌then◌else◌}
+use Rattle.choice.specs.Choice.{when◌then◌else◌}
 use Rattle.clock.specs.Durations.{clamp}
 use Rattle.clock.specs.declared.instant.Instant.{Instant}
 
@@ -27,20 +27,20 @@ before a b = negative (gap a b)
 
 -- A deadline is due at its own moment and where it is before now: at a distance of exactly 2^31, too.
 unfoldable pub due : ℕ → ℕ → Bool
-due deadline now = if deadline == now then true else before deadline now
+due deadline now = when deadline == now then true else before deadline now
 
 -- The rest from now to a moment: none where that has passed, and at most the longest duration.
 unfoldable pub rest : ℕ → ℕ → ℕ
-rest m now = if before m now then 0 else clamp (gap m now)
+rest m now = when before m now then 0 else clamp (gap m now)
 
 -- The earlier of two moments: the second where it is before the first. This is not associative: of three moments that
 -- lie all round the clock, each is before the next.
 unfoldable pub earlier : ℕ → ℕ → ℕ
-earlier a b = if before b a then b else a
+earlier a b = when before b a then b else a
 
 -- The later of two moments: the first where the second is due at it.
 unfoldable pub later : ℕ → ℕ → ℕ
-later a b = if due b a then a else b
+later a b = when due b a then a else b
 
 -- The moment of so many milliseconds.
 abbrev pub moment : ℕ → Instant

@@ -1,6 +1,6 @@
 -- Which state awaits which reply (document 01, "Reading a reply").
 use Rattle.std.specs.Prelude.{ℕ, Bool, eqb}
-use Rattle.choice.specs.Choice.{if◌then◌else◌}
+use Rattle.choice.specs.Choice.{when◌then◌else◌}
 use Rattle.octets.specs.Codes.{offer, ack, nak}
 use Rattle.machine.specs.declared.state.ClientState.{ClientState}
 use Rattle.machine.specs.declared.state.ClientState.TheVariants.{Init, Discovering, Requesting, Renewing}
@@ -10,12 +10,12 @@ use Rattle.judge.specs.declared.awaited.Awaited.TheVariants.{Offer, Ack, Nak, No
 -- An OFFER is awaited in Discovering; an ACK in Requesting and Renewing, and a NAK there, unless they are ignored; in
 -- Init nothing is.
 unfoldable pub offer_alone : ℕ → Awaited
-offer_alone kind = if eqb kind offer then Offer else Nothing
+offer_alone kind = when eqb kind offer then Offer else Nothing
 
 unfoldable pub ack_or_nak : ℕ → Bool → Awaited
 ack_or_nak kind ignoring =
-    if eqb kind ack then Ack
-    else if eqb kind nak then (if ignoring then Nothing else Nak)
+    when eqb kind ack then Ack
+    else when eqb kind nak then (when ignoring then Nothing else Nak)
     else Nothing
 
 abbrev pub awaited : ClientState → ℕ → Bool → Awaited

@@ -2,7 +2,7 @@
 -- replies are taken, the Rust decides. `judged`, the last definition, is the whole; the checks stand in document 01's order
 -- from there upwards: length and header, message type, hardware address, id, identifier, then the state.
 use Rattle.std.specs.Prelude.{ℕ, Bool, false, not, List, eqb}
-use Rattle.choice.specs.Choice.{if◌then◌else◌}
+use Rattle.choice.specs.Choice.{when◌then◌else◌}
 use Rattle.octets.specs.Addresses.{unicast, prefix_len}
 use Rattle.octets.specs.Codes.{mask_code, identifier_code}
 use Rattle.octets.specs.declared.number.MaybeNumber.{MaybeNumber}
@@ -28,7 +28,7 @@ needing (Some n) number next = next n
 unfoldable pub judged_offer : DhcpServerInfo → List ℕ → Verdict
 judged_offer server reply =
     needing (if_unicast (your_address reply)) 27 (λ address.
-    if not (unicast server.address) then PassedOver 27
+    when not (unicast server.address) then PassedOver 27
     else Offer (record { server = server; address = address }))
 
 -- An ACK: mask, 28; contiguity, 29; your-address unicast, 30.
@@ -62,8 +62,8 @@ is_id id (Some n) = eqb n id
 -- Client hardware address, 23; transaction id, 24; server identifier, which has to be there and is not compared, 25.
 unfoldable pub judged_sender : Recipient → ℕ → List ℕ → ℕ → Verdict
 judged_sender who source reply kind =
-    if not (addressed_to who.hardware reply) then PassedOver 23
-    else if not (is_id who.id (transaction_id reply)) then PassedOver 24
+    when not (addressed_to who.hardware reply) then PassedOver 23
+    else when not (is_id who.id (transaction_id reply)) then PassedOver 24
     else needing (address_of (option_data identifier_code reply)) 25 (judged_kind who source reply kind)
 
 -- Length, 20, and header, 21; message type, 22; then the above.

@@ -1,6 +1,6 @@
 -- The lease that a client holds.
 use Rattle.std.specs.Prelude.{ℕ, Bool, false, not, ◌&&◌, List, take, replicate, ltb, eqb}
-use Rattle.choice.specs.Choice.{if◌then◌else◌}
+use Rattle.choice.specs.Choice.{when◌then◌else◌}
 use Rattle.octets.specs.Runs.{same_bytes}
 use Rattle.octets.specs.Codes.{dns_code}
 use Rattle.octets.specs.declared.number.MaybeNumber.TheVariants.{None}
@@ -41,8 +41,8 @@ lease_of server address prefix reply = record {
 -- Whether a lease is whole: no prefix over 32, no count over 3, stored options that are whole items.
 unfoldable pub whole_lease : DhcpLease → Bool
 whole_lease l =
-    if not (prefix_fits l.prefix) then false
-    else if ltb 3 l.dns.count then false
+    when not (prefix_fits l.prefix) then false
+    else when ltb 3 l.dns.count then false
     else whole_store l.options
 
 -- Whether two leases are the same: who leased what, the router, the DNS servers in use, the stored options.

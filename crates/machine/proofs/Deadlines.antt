@@ -6,7 +6,7 @@ use mathlib.Core.List.{[], ◌∷◌}
 use native.Mathlib.Nat.{zero-mul, suc-mul, pow-le-pow_right}
 use native.Mathlib.Omega.{arith}
 use borrow.Author.Tests.{not-true}
-use Rattle.choice.specs.Choice.{if◌then◌else◌}
+use Rattle.choice.specs.Choice.{when◌then◌else◌}
 use Rattle.clock.specs.Clocks.{gathering, expired_at}
 use Rattle.clock.specs.Durations.{clamp}
 use Rattle.clock.specs.Moments.{due, earlier, moment}
@@ -28,7 +28,7 @@ module _ (k : Clock) (deadline : ℕ) {question : Expired} (asked : question ≡
 
   -- a deadline that has not come is gathered
   pub gathered : question.expired ≡ false → question.clock ≡ gathering k deadline
-  unfolding expired_at if◌then◌else◌
+  unfolding expired_at when◌then◌else◌
   gathered to_come = rw (asked, due_expired ∙ to_come) refl
 
 -- a Request of Renewing, and the clock that has gathered when the next is due

@@ -1,7 +1,7 @@
 -- What a poll does, as far as the state, the waits and the moment decide it (document 01, "Polling"). Moments are the
 -- Rust's, at every distance: those at exactly 2^31 ms, too, which no run from a fresh client meets. `decided` is the whole.
 use Rattle.std.specs.Prelude.{ℕ, ◌+◌, ◌*◌, ◌/◌, ◌^◌, ◌≤◌, min, max, Bool, true, false, not, List, [], ◌∷◌, leb}
-use Rattle.choice.specs.Choice.{if◌then◌else◌}
+use Rattle.choice.specs.Choice.{when◌then◌else◌}
 use Rattle.clock.specs.Durations.{clamp}
 use Rattle.clock.specs.Moments.{plus, before, due, rest, earlier, moment}
 use Rattle.clock.specs.Clocks.{day}
@@ -40,7 +40,7 @@ discovers w now = sends now (Discover (discovering w now)) ((discovering w now).
 
 unfoldable pub decided_discovering : Waits → DiscoverState → ℕ → Decision
 decided_discovering w s now =
-    if due s.retry_at.millis now then discovers w now
+    when due s.retry_at.millis now then discovers w now
     else waits now (s.retry_at.millis ∷ [])
 
 -- "Request in Requesting: waits 5, 5, 10, 10, 20 s": the first wait, doubled at every second try.
@@ -57,17 +57,17 @@ requested w s now = record {
 -- "The sixth expiry in Requesting resets and discovers in one poll."
 unfoldable pub decided_requesting : Waits → RequestState → ℕ → Decision
 decided_requesting w s now =
-    if not (due s.tries.retry_at.millis now) then waits now (s.tries.retry_at.millis ∷ [])
-    else if leb w.request_retries s.tries.retry then discovers w now
+    when not (due s.tries.retry_at.millis now) then waits now (s.tries.retry_at.millis ∷ [])
+    else when leb w.request_retries s.tries.retry then discovers w now
     else sends now (Request (requested w s now)) ((requested w s now).tries.retry_at.millis ∷ [])
 
 -- "at the earlier of renew and rebind (once rebinding, at rebind alone)"
 unfoldable pub next_retry : RenewState → ℕ
-next_retry s = if s.rebinding then s.rebind_at.millis else earlier s.renew_at.millis s.rebind_at.millis
+next_retry s = when s.rebinding then s.rebind_at.millis else earlier s.renew_at.millis s.rebind_at.millis
 
 -- Whether a Request is of rebinding: "from rebind on", which the Rust reads as not before it.
 unfoldable pub rebinds : RenewState → ℕ → Bool
-rebinds s now = if s.rebinding then true else not (before now s.rebind_at.millis)
+rebinds s now = when s.rebinding then true else not (before now s.rebind_at.millis)
 
 -- "Before rebind it [..] waits max(60 s, rest to rebind / 2), at most that rest."
 abbrev pub renew_wait : Waits → RenewState → ℕ → ℕ
@@ -97,9 +97,9 @@ rebound w s now = record {
 -- "Renewing: expiry first, which resets and discovers in that poll; then [..] a Request."
 unfoldable pub decided_renewing : Waits → RenewState → ℕ → Decision
 decided_renewing w s now =
-    if due s.expires_at.millis now then discovers w now
-    else if not (due (next_retry s) now) then waits now (s.expires_at.millis ∷ next_retry s ∷ [])
-    else if rebinds s now then sends now (Renew (rebound w s now)) (s.expires_at.millis ∷ (rebound w s now).rebind_at.millis ∷ [])
+    when due s.expires_at.millis now then discovers w now
+    else when not (due (next_retry s) now) then waits now (s.expires_at.millis ∷ next_retry s ∷ [])
+    else when rebinds s now then sends now (Renew (rebound w s now)) (s.expires_at.millis ∷ (rebound w s now).rebind_at.millis ∷ [])
     else sends now (Renew (renewed w s now)) (s.expires_at.millis ∷ (renewed w s now).renew_at.millis ∷ [])
 
 unfoldable pub decided : Waits → ClientState → ℕ → Decision

@@ -1,6 +1,6 @@
 -- How long a lease is and when it is renewed and rebound, in milliseconds (document 01, "Reading a reply").
 use Rattle.std.specs.Prelude.{ℕ, ◌+◌, ◌*◌, ◌-◌, ◌/◌, min, ltb}
-use Rattle.choice.specs.Choice.{if◌then◌else◌}
+use Rattle.choice.specs.Choice.{when◌then◌else◌}
 use Rattle.clock.specs.Durations.{seconds, duration}
 use Rattle.clock.specs.declared.duration.Duration.{Duration}
 use Rattle.clock.specs.declared.duration.MaybeDuration.{MaybeDuration}
@@ -35,12 +35,12 @@ lease_time said maximum = at_most maximum (or_default (given said)).millis
 
 -- The row that options 58 and 59, T1 and T2, and L fall under.
 unfoldable pub both_row : Duration → Duration → ℕ → Row
-both_row t1 t2 l = if ltb t1.millis t2.millis then (if ltb t2.millis l then Both t1 t2 else Neither) else Neither
+both_row t1 t2 l = when ltb t1.millis t2.millis then (when ltb t2.millis l then Both t1 t2 else Neither) else Neither
 
 abbrev pub row_of : MaybeDuration → MaybeDuration → ℕ → Row
 row_of (time.Some t1) (time.Some t2) l = both_row t1 t2 l
-row_of (time.Some t1) time.None l = if ltb t1.millis l then OnlyRenew t1 else Neither
-row_of time.None (time.Some t2) l = if ltb t2.millis l then OnlyRebind t2 else Neither
+row_of (time.Some t1) time.None l = when ltb t1.millis l then OnlyRenew t1 else Neither
+row_of time.None (time.Some t2) l = when ltb t2.millis l then OnlyRebind t2 else Neither
 row_of time.None time.None l = Neither
 
 -- The times of a row. Division cuts down.

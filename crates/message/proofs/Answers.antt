@@ -7,7 +7,7 @@ use native.Mathlib.Omega.{arith}
 use lib.ListN.{length}
 use lib.Dec.{ltb}
 use borrow.Author.Tests.{ltb-false, not-false, le-leb, lt-leb}
-use Rattle.choice.specs.Choice.{if◌then◌else◌}
+use Rattle.choice.specs.Choice.{when◌then◌else◌}
 use Rattle.octets.specs.Runs.{over}
 use Rattle.octets.specs.Items.{whole_items}
 use Rattle.message.specs.Messages.{message}
@@ -18,9 +18,9 @@ use Rattle.message.specs.declared.datagram.Endpoints.{Endpoints}
 use Rattle.message.specs.declared.message.Message.{Message}
 use Rattle.message.specs.declared.message.Answer.TheVariants.{Length, Refused}
 
-passed : (a b c d : Bool) (k n : ℕ) → (if a then Refused 3 else if b then Refused 4 else if c then Refused 5 else if d then Refused 5 else Length k) ≡ Length n
+passed : (a b c d : Bool) (k n : ℕ) → (when a then Refused 3 else when b then Refused 4 else when c then Refused 5 else when d then Refused 5 else Length k) ≡ Length n
     → (a ≡ false) × (b ≡ false) × (c ≡ false) × (n ≡ k)
-unfolding if◌then◌else◌
+unfolding when◌then◌else◌
 passed false false false false k n e = (refl, refl, refl, cc)
 passed false false false true k n e = absurd (let z : ◌≡◌ {A = ℕ} 0 1 = cc in omega arith)
 passed false false true d k n e = absurd (let z : ◌≡◌ {A = ℕ} 0 1 = cc in omega arith)
@@ -37,11 +37,11 @@ module _ (m : Message) (name list extra : List ℕ) where
 
   -- the answer
   pub fits : {n room : ℕ} → measured m name list extra ≡ Length n → 8 + n ≤ room → written m name list extra room ≡ Length (8 + n)
-  unfolding written if◌then◌else◌
+  unfolding written when◌then◌else◌
   fits e h = simp (e, le-leb _ _ h)
 
   pub over_room : {n room : ℕ} → measured m name list extra ≡ Length n → room < 8 + n → written m name list extra room ≡ Refused 8
-  unfolding written if◌then◌else◌
+  unfolding written when◌then◌else◌
   over_room e h = simp (e, lt-leb _ _ h)
 
   pub refused : {k : ℕ} (room : ℕ) → measured m name list extra ≡ Refused k → written m name list extra room ≡ Refused k

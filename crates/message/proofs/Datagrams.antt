@@ -5,7 +5,7 @@ use mathlib.Core.List.{List, [], ◌∷◌, ◌++◌}
 use Prim.Native.Nat.{ℕ, ◌+◌}
 use lib.ListN.{length, length-append}
 use native.Mathlib.Omega.{arith}
-use Rattle.choice.specs.Choice.{if◌then◌else◌}
+use Rattle.choice.specs.Choice.{when◌then◌else◌}
 use Rattle.octets.specs.Words.{bytes16}
 use Rattle.message.specs.Datagrams.{udp, checksum_field, datagram}
 use Rattle.message.specs.Pieces.{Wrote, summed}
@@ -20,12 +20,12 @@ headed size body e h b = rw e at (row h b)
 -- then the checksum, if it is not the device's
 module _ (ends : Endpoints) (body : List ℕ) {n : ℕ} {buf xs ys : List ℕ} (w : Wrote 0 (udp (0 ∷ 0 ∷ []) body) buf n xs) where
   pub finish : (offload : Bool) → ys ≡ summed ends offload n xs → Wrote 0 (datagram ends offload body) buf n ys
-  unfolding datagram checksum_field summed if◌then◌else◌
+  unfolding datagram checksum_field summed when◌then◌else◌
   finish true s = rw s w
   finish false s = patch (0 ∷ 68 ∷ 0 ∷ 67 ∷ bytes16 (8 + length body)) (0 ∷ 0 ∷ []) body _ refl w (rw (front w) at s)
 
-two : (b : Bool) (v : List ℕ) → length v ≡ 2 → length (if b then 0 ∷ 0 ∷ [] else v) ≡ 2
-unfolding if◌then◌else◌
+two : (b : Bool) (v : List ℕ) → length v ≡ 2 → length (when b then 0 ∷ 0 ∷ [] else v) ≡ 2
+unfolding when◌then◌else◌
 two true v h = refl
 two false v h = h
 

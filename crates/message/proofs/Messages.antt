@@ -6,7 +6,7 @@ use Prim.Native.Nat.{ℕ, ◌+◌, ◌≤◌}
 use native.Mathlib.Omega.{arith}
 use lib.ListN.{length, get_or, length-append}
 use borrow.Author.Tests.{leb-true}
-use Rattle.choice.specs.Choice.{if◌then◌else◌}
+use Rattle.choice.specs.Choice.{when◌then◌else◌}
 use Rattle.octets.specs.Words.{bytes16, bytes32}
 use Rattle.octets.specs.declared.number.MaybeNumber.{MaybeNumber}
 use Rattle.octets.specs.declared.number.MaybeNumber.TheVariants.{None, Some}
@@ -30,11 +30,11 @@ six (a ∷ b ∷ c ∷ d ∷ e ∷ f ∷ g ∷ xs) h = absurd (omega arith)
 
 -- an option that may be absent
 pub if_given : (given : Bool) (kind : ℕ) (body : List ℕ) → given ≡ true → option_if given kind body ≡ option kind body
-unfolding option_if if◌then◌else◌
+unfolding option_if when◌then◌else◌
 if_given given kind body e = rw e
 
 pub if_not : (given : Bool) (kind : ℕ) (body : List ℕ) → given ≡ false → option_if given kind body ≡ []
-unfolding option_if if◌then◌else◌
+unfolding option_if when◌then◌else◌
 if_not given kind body e = rw e
 
 pub address_some : (kind : ℕ) {m : MaybeNumber} {a : ℕ} → m ≡ Some a → address_option kind m ≡ option kind (bytes32 a)
@@ -76,12 +76,12 @@ size_most kind (Some n) = omega arith
 
 -- a request list within its limit, and its option; a name within its limit
 pub list_most : (asks : Bool) (n : ℕ) → list_fits asks n ≡ true → asks ≡ true → n ≤ 64
-unfolding list_fits if◌then◌else◌
+unfolding list_fits when◌then◌else◌
 list_most true n h e = leb-true n 64 h
 list_most false n h e = absurd (let z : ◌≡◌ {A = ℕ} 0 1 = cc in omega arith)
 
 pub option_most : (asks : Bool) (list : List ℕ) → list_fits asks (length list) ≡ true → length (option_if asks request_list_code list) ≤ 66
-unfolding list_fits option_if if◌then◌else◌
+unfolding list_fits option_if when◌then◌else◌
 option_most true list h = omega (arith, leb-true (length list) 64 h)
 option_most false list h = omega arith
 

@@ -5,7 +5,7 @@ use mathlib.Core.List.{List, [], ◌∷◌, ◌++◌}
 use native.Mathlib.Omega.{arith}
 use native.Mathlib.Decide.{dec_le}
 use borrow.Author.Tests.{eq-eqb, ne_eqb, le-leb, lt-leb}
-use Rattle.choice.specs.Choice.{if◌then◌else◌}
+use Rattle.choice.specs.Choice.{when◌then◌else◌}
 use lib.ListN.{length, get_or, drop}
 use Rattle.octets.specs.Words.{word16}
 use Rattle.message.specs.Datagrams.{ones_add, ones_sum, pseudo_header}
@@ -37,11 +37,11 @@ sum_head source destination n d = refl
 
 -- ---- carries added in at the end
 in_none : (n : ℕ) → n ≡ 0 → carried_in n ≡ 0
-unfolding carried_in if◌then◌else◌
+unfolding carried_in when◌then◌else◌
 in_none n e = simp (eq-eqb n 0 e)
 
 in_some : (n : ℕ) → 1 ≤ n → carried_in n ≡ (n - 1) % 65535 + 1
-unfolding carried_in if◌then◌else◌
+unfolding carried_in when◌then◌else◌
 in_some n h = simp (ne_eqb n 0 (λ e. omega arith))
 
 pub in_start : (n : ℕ) → n ≤ 65535 → carried_in n ≡ n
@@ -51,11 +51,11 @@ in_start n h = elim (dec_le 1 n) [
 ]
 
 add_within : (a b : ℕ) → a + b ≤ 65535 → ones_add a b ≡ a + b
-unfolding ones_add if◌then◌else◌
+unfolding ones_add when◌then◌else◌
 add_within a b h = simp (le-leb _ _ h)
 
 add_over : (a b : ℕ) → 65535 < a + b → ones_add a b ≡ a + b - 65535
-unfolding ones_add if◌then◌else◌
+unfolding ones_add when◌then◌else◌
 add_over a b h = simp (lt-leb _ _ h)
 
 -- one word more

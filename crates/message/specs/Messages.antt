@@ -1,7 +1,7 @@
 -- A client's DHCP message as a list of octets: the header of RFC 2131, figure 1 and table 5, then the options it is
 -- given, then 255.
 use Rattle.std.specs.Prelude.{ℕ, ◌+◌, Bool, List, [], ◌∷◌, ◌++◌, replicate}
-use Rattle.choice.specs.Choice.{if◌then◌else◌}
+use Rattle.choice.specs.Choice.{when◌then◌else◌}
 use Rattle.octets.specs.Words.{bytes16, bytes32}
 use Rattle.octets.specs.Items.{cookie, option}
 use Rattle.octets.specs.Codes.{end_code, host_name_code, requested_code, message_type_code, identifier_code, request_list_code, message_size_code, client_id_code}
@@ -21,7 +21,7 @@ header id client hardware =
 
 -- An option that may be absent.
 unfoldable pub option_if : Bool → ℕ → List ℕ → List ℕ
-option_if given kind body = if given then option kind body else []
+option_if given kind body = when given then option kind body else []
 
 -- An option that holds an address, and one that holds 16 bits.
 unfoldable pub address_option : ℕ → MaybeNumber → List ℕ

@@ -1,6 +1,6 @@
 -- What single writers do: definitions for contracts within this crate, which no public one cites.
 use Rattle.std.specs.Prelude.{ℕ, ◌+◌, ◌-◌, ◌%◌, ◌≤◌, Bool, true, List, [], ◌∷◌, ◌++◌, ◌≡◌, length, take, drop, eqb}
-use Rattle.choice.specs.Choice.{if◌then◌else◌}
+use Rattle.choice.specs.Choice.{when◌then◌else◌}
 use Rattle.octets.specs.Words.{bytes16}
 use Rattle.octets.specs.Runs.{over}
 use Rattle.octets.specs.Codes.{end_code, request_list_code}
@@ -23,13 +23,13 @@ last asks list extra = option_if asks request_list_code list ++ (extra ++ (end_c
 -- What a writer that adds the checksum to a datagram of n octets leaves.
 unfoldable pub summed : Endpoints → Bool → ℕ → List ℕ → List ℕ
 summed ends offload n xs =
-    if offload then xs
+    when offload then xs
     else take 6 xs ++ over (bytes16 (checksum ends.source ends.destination (take n xs))) (drop 6 xs)
 
 -- A plain sum of words with its carries added in: the number from 1 to 65,535 that it is congruent to modulo 65,535; 0
 -- where it is 0.
 unfoldable pub carried_in : ℕ → ℕ
-carried_in sum = if eqb sum 0 then 0 else (sum - 1) % 65535 + 1
+carried_in sum = when eqb sum 0 then 0 else (sum - 1) % 65535 + 1
 
 -- Lists within their limits.
 pub record Short (m : Message) (name list extra : List ℕ) : Type 0 where

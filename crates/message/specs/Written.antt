@@ -1,6 +1,6 @@
 -- What the writers leave in the buffer that they are lent.
 use Rattle.std.specs.Prelude.{ℕ, ◌+◌, Bool, true, not, List, length, leb, ltb}
-use Rattle.choice.specs.Choice.{if◌then◌else◌}
+use Rattle.choice.specs.Choice.{when◌then◌else◌}
 use Rattle.octets.specs.Runs.{over}
 use Rattle.octets.specs.Items.{whole_items}
 use Rattle.message.specs.Messages.{message}
@@ -22,22 +22,22 @@ extra_limit = 255
 
 -- Whether a request list of n codes is within its limit, if there is one.
 unfoldable pub list_fits : Bool → ℕ → Bool
-list_fits asks n = if asks then leb n list_limit else true
+list_fits asks n = when asks then leb n list_limit else true
 
 -- A message's length, or a refusal: 3 name over 63 octets; 4 request list over 64, where there is one; 5 extra options
 -- over 255 octets or not whole items.
 unfoldable pub measured : Message → List ℕ → List ℕ → List ℕ → Answer
 measured m name list extra =
-    if ltb name_limit (length name) then Refused 3
-    else if not (list_fits m.asks (length list)) then Refused 4
-    else if ltb extra_limit (length extra) then Refused 5
-    else if not (whole_items extra) then Refused 5
+    when ltb name_limit (length name) then Refused 3
+    else when not (list_fits m.asks (length list)) then Refused 4
+    else when ltb extra_limit (length extra) then Refused 5
+    else when not (whole_items extra) then Refused 5
     else Length (length (message m name list extra))
 
 -- What a writer that is lent so many octets answers: the datagram's length, or a refusal, 8 where it does not fit.
 abbrev pub fitted : ℕ → Answer → Answer
 fitted room (Refused number) = Refused number
-fitted room (Length size) = if leb (8 + size) room then Length (8 + size) else Refused 8
+fitted room (Length size) = when leb (8 + size) room then Length (8 + size) else Refused 8
 
 -- The buffer after it: the datagram from its first octet on, what follows as it was; as it was where it is refused.
 abbrev pub leaves : Answer → List ℕ → List ℕ → List ℕ

@@ -6,7 +6,7 @@ use Prim.Native.Nat.{ℕ, zero, suc, ◌+◌, ◌-◌, ◌≤◌, ◌<◌}
 use native.Mathlib.Omega.{arith}
 use lib.ListN.{length, drop, get_or, drop_of_length-le}
 use borrow.Author.Tests.{le-leb, lt-leb}
-use Rattle.choice.specs.Choice.{if◌then◌else◌}
+use Rattle.choice.specs.Choice.{when◌then◌else◌}
 use Rattle.octets.specs.Items.{option, option_bytes, whole_from, whole_items}
 
 -- data of an item begun before is passed over, if it is all there
@@ -47,11 +47,11 @@ items_more (x ∷ n ∷ t) g h = whole_skip n t (omega arith) ∙ let e : n + 2 
 
 -- an option as a writer has it, by the length of its data
 pub bytes_of : (kind : ℕ) (body : List ℕ) → length body ≤ 255 → option_bytes kind body ≡ option kind body
-unfolding option_bytes if◌then◌else◌
+unfolding option_bytes when◌then◌else◌
 bytes_of kind body h = simp (le-leb _ _ h)
 
 pub bytes_long : (kind : ℕ) (body : List ℕ) → 255 < length body → option_bytes kind body ≡ []
-unfolding option_bytes if◌then◌else◌
+unfolding option_bytes when◌then◌else◌
 bytes_long kind body h = simp (lt-leb _ _ h)
 
 -- whole items before others

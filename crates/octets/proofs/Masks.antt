@@ -7,7 +7,7 @@ use native.Mathlib.Numerals.{sub-one}
 use lib.Pow.{pow_mono}
 use lib.Dec.{eqb}
 use borrow.Author.Tests.{eq-eqb, ne_eqb}
-use Rattle.choice.specs.Choice.{if◌then◌else◌}
+use Rattle.choice.specs.Choice.{when◌then◌else◌}
 use Rattle.choice.proofs.Choices.{if_cases}
 use Rattle.octets.specs.Addresses.{mask_of, length_up_to}
 use Rattle.octets.specs.declared.number.MaybeNumber.TheVariants.{None, Some}
@@ -20,21 +20,21 @@ double n h k = let e : 32 - (n - 1) ≡ suc (32 - n) = omega arith in sym (ap (�
 
 -- a mask of n ones is 2^32 less a power
 pub hit : (n m : ℕ) → 0 < n → m + 2 ^ (32 - n) ≡ 2 ^ 32 → length_up_to n m ≡ Some n
-unfolding length_up_to if◌then◌else◌
+unfolding length_up_to when◌then◌else◌
 hit zero m h e = absurd (not-suc-le-zero h)
 hit (suc k) m h e = let f : m ≡ mask_of (suc k) = omega arith in simp (eq-eqb m (mask_of (suc k)) f)
 
 pub miss : (n m : ℕ) → 0 < n → (m + 2 ^ (32 - n) ≡ 2 ^ 32 → ⊥) → length_up_to n m ≡ length_up_to (n - 1) m
-unfolding length_up_to if◌then◌else◌
+unfolding length_up_to when◌then◌else◌
 miss zero m h e = absurd (not-suc-le-zero h)
 miss (suc k) m h e = simp (ne_eqb m (mask_of (suc k)) (λ q. e (omega (arith, small (suc k)))), sub-one)
 
 pub last_hit : (m : ℕ) → m ≡ 0 → length_up_to 0 m ≡ Some 0
-unfolding length_up_to if◌then◌else◌
+unfolding length_up_to when◌then◌else◌
 last_hit m e = simp (eq-eqb m 0 e)
 
 pub last_miss : (m : ℕ) → (m ≡ 0 → ⊥) → length_up_to 0 m ≡ None
-unfolding length_up_to if◌then◌else◌
+unfolding length_up_to when◌then◌else◌
 last_miss m e = simp (ne_eqb m 0 e)
 
 -- a prefix length has at most the bits that it may have

@@ -11,7 +11,7 @@ use lib.Seq.{take_at, drop_at, drop-drop, take_all}
 use lib.Dec.{eqb}
 use borrow.Author.Tests.{eq-eqb, ne_eqb, le-leb, lt-leb}
 use borrow.Rule.Slice.PartMut.{put_mid}
-use Rattle.choice.specs.Choice.{if◌then◌else◌}
+use Rattle.choice.specs.Choice.{when◌then◌else◌}
 use Rattle.octets.specs.Runs.{same_bytes, over, placed, placed_length}
 
 -- what `&xs[a..]` is
@@ -31,13 +31,13 @@ same_short (a ∷ x) [] h k = refl
 same_short (a ∷ x) (b ∷ y) h k = absurd (omega arith)
 
 pub same_other : (x y : List ℕ) → 0 < length x → (length y ≡ 0 → ⊥) → (get_or x 0 0 ≡ get_or y 0 0 → ⊥) → same_bytes x y ≡ false
-unfolding same_bytes if◌then◌else◌
+unfolding same_bytes when◌then◌else◌
 same_other [] y h k e = absurd (omega arith)
 same_other (a ∷ x) [] h k e = absurd (omega arith)
 same_other (a ∷ x) (b ∷ y) h k e = simp (ne_eqb a b e)
 
 pub same_more : (x y : List ℕ) → 0 < length x → (length y ≡ 0 → ⊥) → get_or x 0 0 ≡ get_or y 0 0 → same_bytes x y ≡ same_bytes (drop 1 x) (drop 1 y)
-unfolding same_bytes if◌then◌else◌
+unfolding same_bytes when◌then◌else◌
 same_more [] y h k e = absurd (omega arith)
 same_more (a ∷ x) [] h k e = absurd (omega arith)
 same_more (a ∷ x) (b ∷ y) h k e = simp (eq-eqb a b e)
@@ -94,11 +94,11 @@ two_set k n (x ∷ y ∷ r) h = refl
 
 -- whole, where there is room; else not at all
 pub placed_whole : (out buf : List ℕ) → length out ≤ length buf → (placed_length out buf ≡ length out) × (placed out buf ≡ over out buf)
-unfolding placed placed_length if◌then◌else◌
+unfolding placed placed_length when◌then◌else◌
 placed_whole out buf h = (simp (le-leb _ _ h), simp (le-leb _ _ h))
 
 pub placed_not : (out buf : List ℕ) → length buf < length out → (placed_length out buf ≡ 0) × (placed out buf ≡ buf)
-unfolding placed placed_length if◌then◌else◌
+unfolding placed placed_length when◌then◌else◌
 placed_not out buf h = (simp (lt-leb _ _ h), simp (lt-leb _ _ h))
 
 pub placed_none : (buf : List ℕ) → (placed_length [] buf ≡ 0) × (placed [] buf ≡ buf)
@@ -125,8 +125,8 @@ placed_lent out xs ys at r er ey = (
 )
 
 -- lists of other lengths differ
-else_false : (t : Bool) {r : Bool} → r ≡ false → (if t then r else false) ≡ false
-unfolding if◌then◌else◌
+else_false : (t : Bool) {r : Bool} → r ≡ false → (when t then r else false) ≡ false
+unfolding when◌then◌else◌
 else_false true e = e
 else_false false e = refl
 

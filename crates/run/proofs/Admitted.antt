@@ -5,7 +5,7 @@ use mathlib.Core.Path.{◌≡◌, refl, sym, ap, ◌∙◌, subst, subst⁻¹}
 use mathlib.Core.List.{List, [], ◌∷◌}
 use lib.Dec.{eqb}
 use borrow.Author.Tests.{eq-eqb}
-use Rattle.choice.specs.Choice.{if◌then◌else◌}
+use Rattle.choice.specs.Choice.{when◌then◌else◌}
 use Rattle.choice.proofs.Choices.{if_true}
 use Rattle.clock.specs.declared.instant.Instant.{Instant}
 use Rattle.clock.specs.declared.rand.Rand.{Rand}
@@ -22,7 +22,7 @@ use Rattle.run.specs.Demand3.{Entry, Event, moment_after, Done, CameTo, Polls, D
 
 -- The buffer, empty where a message was built into it.
 unfoldable pub wiped : PollOutcome → List ℕ → List ℕ
-wiped (Answered answer) buffer = if eqb answer.length 0 then buffer else []
+wiped (Answered answer) buffer = when eqb answer.length 0 then buffer else []
 wiped (Refused number) buffer = buffer
 
 abbrev garbled : PolledInto → PolledInto

@@ -4,7 +4,7 @@ use mathlib.Core.Path.{◌≡◌, refl, sym, ap, ◌∙◌, subst}
 use mathlib.Core.Bool.{true, false, not, false≢true}
 use mathlib.Core.List.{List, [], ◌∷◌}
 use borrow.Author.Tests.{not-true}
-use Rattle.choice.specs.Choice.{if◌then◌else◌}
+use Rattle.choice.specs.Choice.{when◌then◌else◌}
 use Rattle.clock.specs.Moments.{wrap, moment}
 use Rattle.clock.specs.declared.instant.Instant.{Instant}
 use Rattle.clock.specs.declared.waits.Waits.{Waits}
@@ -42,15 +42,15 @@ use Rattle.run.proofs.Invariant.{Inv, Effect, keeps, goes, clears, binds, effect
 -- A REPLY: what one that is accepted is to the history, by its message type
 module _ (s : Settings) (bytes : List ℕ) where
   offer_accepted : accepted s bytes (Some offer) ≡ []
-  unfolding accepted_as if◌then◌else◌
+  unfolding accepted_as when◌then◌else◌
   offer_accepted = refl
 
   ack_accepted : accepted s bytes (Some ack) ≡ Acked (reply_lease (maximum_of s) bytes) (given_by bytes) ∷ []
-  unfolding accepted_as if◌then◌else◌
+  unfolding accepted_as when◌then◌else◌
   ack_accepted = refl
 
   nak_accepted : accepted s bytes (Some nak) ≡ Cleared ∷ []
-  unfolding accepted_as if◌then◌else◌
+  unfolding accepted_as when◌then◌else◌
   nak_accepted = refl
 
   taken_tells : (o : ReplyOutcome) → was_taken o ≡ true → {kind : ℕ} → message_type bytes ≡ Some kind → reply_tells s bytes o ≡ accepted s bytes (Some kind)

@@ -3,7 +3,7 @@ use Prim.Native.Nat.{ℕ}
 use mathlib.Core.Path.{◌≡◌, refl, sym, ap, ◌∙◌}
 use mathlib.Core.Bool.{Bool, true, false}
 use mathlib.Core.List.{List, []}
-use Rattle.choice.specs.Choice.{if◌then◌else◌}
+use Rattle.choice.specs.Choice.{when◌then◌else◌}
 use Rattle.choice.proofs.Choices.{if_true, if_false}
 use Rattle.octets.specs.declared.number.MaybeNumber.{MaybeNumber}
 use Rattle.octets.specs.declared.number.MaybeNumber.TheVariants.{None, Some}
@@ -29,15 +29,15 @@ pub record Tab (tb : Tables) (lost : Lost) (i : Installed) : Type 0 where
   pub routes : dhcp_routes tb ≡ unless_lost lost.route (leased_routes i.router)
 
 pub lost_none : {A : Type 0} (b : Bool) → unless_lost {A = A} b [] ≡ []
-unfolding unless_lost if◌then◌else◌
+unfolding unless_lost when◌then◌else◌
 lost_none true = refl
 lost_none false = refl
 
 pub none_taken : {A : Type 0} (others : List A) → less_lost {A = A} others [] ≡ []
-unfolding less_lost if◌then◌else◌
+unfolding less_lost when◌then◌else◌
 none_taken {A} others = by (full others)
   where
-    by : (b : Bool) → if◌then◌else◌ {A = List A} b [] [] ≡ []
+    by : (b : Bool) → when◌then◌else◌ {A = List A} b [] [] ≡ []
     by true = refl
     by false = refl
 
@@ -56,18 +56,18 @@ module _ (tb tb' : Tables) (lost : Lost) where
         routes = n.routes ∙ no_routes i.router k.routes ∙ sym (lost_none lost.route);
       }
     where
-      no_addrs : (m : MaybeCidr) → dhcp_addrs tb ≡ unless_lost lost.addr (leased_addrs m) → (if same_cidr Absent m then dhcp_addrs tb else less_lost (other_addrs tb) []) ≡ []
+      no_addrs : (m : MaybeCidr) → dhcp_addrs tb ≡ unless_lost lost.addr (leased_addrs m) → (when same_cidr Absent m then dhcp_addrs tb else less_lost (other_addrs tb) []) ≡ []
       no_addrs Absent e = sym (if_true _ refl refl) ∙ e ∙ lost_none lost.addr
       no_addrs (Cidr a p) e = sym (if_false _ refl refl) ∙ none_taken (other_addrs tb)
 
-      no_routes : (m : MaybeNumber) → dhcp_routes tb ≡ unless_lost lost.route (leased_routes m) → (if same_router None m then dhcp_routes tb else less_lost (other_routes tb) []) ≡ []
+      no_routes : (m : MaybeNumber) → dhcp_routes tb ≡ unless_lost lost.route (leased_routes m) → (when same_router None m then dhcp_routes tb else less_lost (other_routes tb) []) ≡ []
       no_routes None e = sym (if_true _ refl refl) ∙ e ∙ lost_none lost.route
       no_routes (Some a) e = sym (if_false _ refl refl) ∙ none_taken (other_routes tb)
 
   -- an ACK, and what it loses of what it enters
   pub tab_acked : (l : ℕ) (h : History) (new : Installed) → Entered tb tb' (held_by h) new
       → Tab tb lost (held_by h) → Tab tb' (lost_by tb (Acked l new) h lost) new
-  unfolding lost_by less_lost unless_lost if◌then◌else◌
+  unfolding lost_by less_lost unless_lost when◌then◌else◌
   tab_acked l h new n k =
       record {
         addrs = n.addrs ∙ of_addrs (same_cidr new.address (held_by h).address) refl;
@@ -75,12 +75,12 @@ module _ (tb tb' : Tables) (lost : Lost) where
       }
     where
       of_addrs : (b : Bool) → same_cidr new.address (held_by h).address ≡ b
-          → (if b then dhcp_addrs tb else less_lost (other_addrs tb) (leased_addrs new.address)) ≡ unless_lost (if b then lost.addr else full (other_addrs tb)) (leased_addrs new.address)
+          → (when b then dhcp_addrs tb else less_lost (other_addrs tb) (leased_addrs new.address)) ≡ unless_lost (when b then lost.addr else full (other_addrs tb)) (leased_addrs new.address)
       of_addrs true e = k.addrs ∙ ap (λ (m : MaybeCidr). unless_lost lost.addr (leased_addrs m)) (sym (same_cidr_lem new.address (held_by h).address e))
       of_addrs false e = refl
 
       of_routes : (b : Bool) → same_router new.router (held_by h).router ≡ b
-          → (if b then dhcp_routes tb else less_lost (other_routes tb) (leased_routes new.router)) ≡ unless_lost (if b then lost.route else full (other_routes tb)) (leased_routes new.router)
+          → (when b then dhcp_routes tb else less_lost (other_routes tb) (leased_routes new.router)) ≡ unless_lost (when b then lost.route else full (other_routes tb)) (leased_routes new.router)
       of_routes true e = k.routes ∙ ap (λ (m : MaybeNumber). unless_lost lost.route (leased_routes m)) (sym (same_router_lem new.router (held_by h).router e))
       of_routes false e = refl
 

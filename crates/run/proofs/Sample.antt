@@ -5,7 +5,7 @@ use mathlib.Core.Path.{◌≡◌, refl}
 use mathlib.Core.Bool.{false}
 use mathlib.Core.List.{List, [], ◌∷◌, ◌++◌}
 use lib.ListN.{replicate}
-use Rattle.choice.specs.Choice.{if◌then◌else◌}
+use Rattle.choice.specs.Choice.{when◌then◌else◌}
 use Rattle.clock.specs.Durations.{duration}
 use Rattle.clock.specs.Moments.{before, due, earlier, rest}
 use Rattle.clock.specs.Waits.{standard_waits}
@@ -129,7 +129,7 @@ until_ack more = poll_after 0 ∷ reply_now offer ∷ poll_after 0 ∷ reply_now
 
 -- What all this is computed by.
 unfoldable pub computing : Unit {0}
-unfolding if◌then◌else◌ standard_waits before due earlier rest next_state output_of drawn32
+unfolding when◌then◌else◌ standard_waits before due earlier rest next_state output_of drawn32
     word32_at over same_bytes unicast length_up_to whole_from
     head_item options_from first_with header_check pushed all_pushed whole_store
     message option_if address_option size_option name_option list_fits datagram checksum_field

@@ -12,7 +12,7 @@
 -- A call polls, does a deed or merely answers: `CameTo`. The claim speaks of these three and of no call by name; `done` and
 -- `comes` say what each call is.
 use Rattle.std.specs.Prelude.{ℕ, ◌+◌, ◌-◌, ◌^◌, ◌≤◌, ◌<◌, ◌≡◌, Bool, true, false, not, List, [], ◌∷◌, length, leb, eqb}
-use Rattle.choice.specs.Choice.{if◌then◌else◌}
+use Rattle.choice.specs.Choice.{when◌then◌else◌}
 use Rattle.clock.specs.Moments.{wrap, plus, gap, moment}
 use Rattle.clock.specs.Clocks.{day}
 use Rattle.clock.specs.declared.instant.Instant.{Instant}
@@ -80,8 +80,8 @@ pub data Event : Type 0 where
 -- "A reply is accepted if its call gives neither a refusal nor 20 to 30." What it is, its message type says.
 unfoldable pub accepted_as : Settings → List ℕ → ℕ → List Event
 accepted_as s bytes kind =
-    if eqb kind ack then Acked (reply_lease (maximum_of s) bytes) (given_by bytes) ∷ []
-    else if eqb kind nak then Cleared ∷ []
+    when eqb kind ack then Acked (reply_lease (maximum_of s) bytes) (given_by bytes) ∷ []
+    else when eqb kind nak then Cleared ∷ []
     else []
 
 abbrev pub accepted : Settings → List ℕ → MaybeNumber → List Event
@@ -227,7 +227,7 @@ older step (Held lease age given) = Held lease (age + step) given
 -- not refused at age L or more. All else [..] changes only the age."
 unfoldable pub expired : History → History
 expired NoAck = NoAck
-expired (Held lease age given) = if leb lease age then NoAck else Held lease age given
+expired (Held lease age given) = when leb lease age then NoAck else Held lease age given
 
 abbrev pub noted : Event → History → History
 noted Polled h = expired h
@@ -256,8 +256,8 @@ pub record Lost : Type 0 where
 unfoldable pub lost_by : Tables → Event → History → Lost → Lost
 lost_by t Polled h lost = lost
 lost_by t (Acked lease given) h lost = record {
-  addr = if same_cidr given.address (held_by h).address then lost.addr else full (other_addrs t);
-  route = if same_router given.router (held_by h).router then lost.route else full (other_routes t);
+  addr = when same_cidr given.address (held_by h).address then lost.addr else full (other_addrs t);
+  route = when same_router given.router (held_by h).router then lost.route else full (other_routes t);
 }
 lost_by t Cleared h lost = lost
 
@@ -328,7 +328,7 @@ Timely k s gap r (e ∷ es) =
 
 -- TABLES: "After every call the DHCP entries in the tables are exactly the held ACK's, less any lost."
 unfoldable pub unless_lost : {A : Type 0} → Bool → List A → List A
-unless_lost lost xs = if lost then [] else xs
+unless_lost lost xs = when lost then [] else xs
 
 pub record Tabled (r : Run) : Type 0 where
   pub addrs : dhcp_addrs r.post.tables ≡ unless_lost r.lost.addr (leased_addrs (held_by r.history).address)

@@ -1,7 +1,7 @@
 -- Wrong clients, each ours with one call changed in one respect. None meets `Demand3` (proofs/Refuted.antt), and each field of
 -- it has one that fails by it (proofs/Fields.antt), so that nobody need wonder whether the claim says enough.
 use Rattle.std.specs.Prelude.{ℕ, ◌+◌, ◌-◌, ◌^◌, Bool, true, false, ◌&&◌, List, [], ◌∷◌, eqb, leb}
-use Rattle.choice.specs.Choice.{if◌then◌else◌}
+use Rattle.choice.specs.Choice.{when◌then◌else◌}
 use Rattle.clock.specs.Moments.{plus, earlier, moment}
 use Rattle.clock.specs.Clocks.{day}
 use Rattle.clock.specs.declared.instant.Instant.{Instant}
@@ -67,7 +67,7 @@ daily = polling (λ c t g now buffer. waking_at (moment (plus now.millis day)) (
 -- Reports 8 before measuring the message: by the longest that there could be, and whether one is due or not.
 unfoldable pub unmeasured : Client → Tables → Rand → Instant → List ℕ → PolledInto
 unmeasured c t g now buffer =
-    if too_short buffer (c.settings.mtu - 20) then refused_by c t g buffer 8
+    when too_short buffer (c.settings.mtu - 20) then refused_by c t g buffer 8
     else our_poll c t g now buffer
 
 abbrev pub hasty : Calls
@@ -109,7 +109,7 @@ leaves_held c r = is_taken r.outcome && (has_lease r.client.session.state && hol
 
 unfoldable pub processed_again : Client → Tables → ℕ → List ℕ → Instant → Processed
 processed_again c t source bytes now =
-    if leaves_held c (processed c t source bytes now) then entering_again (processed c t source bytes now) t
+    when leaves_held c (processed c t source bytes now) then entering_again (processed c t source bytes now) t
     else processed c t source bytes now
 
 abbrev pub entering : Calls
@@ -122,7 +122,7 @@ restless = polling (λ c t g now buffer. waking_at (moment (plus now.millis 1)) 
 -- Keeps a lease for ever, and does nothing while it has one.
 unfoldable pub keeping : Client → Tables → Rand → Instant → List ℕ → PolledInto
 keeping c t g now buffer =
-    if has_lease c.session.state then passed_by c t g buffer (moment (plus now.millis day))
+    when has_lease c.session.state then passed_by c t g buffer (moment (plus now.millis day))
     else our_poll c t g now buffer
 
 abbrev pub clinging : Calls
@@ -139,7 +139,7 @@ losing = taking (λ c t source bytes now. lose c t (processed c t source bytes n
 
 -- Takes a NAK and leaves the entries to its next poll.
 unfoldable pub linger : Tables → Processed → Processed
-linger t r = record { client = r.client; tables = if has_lease r.client.session.state then r.tables else t; outcome = r.outcome }
+linger t r = record { client = r.client; tables = when has_lease r.client.session.state then r.tables else t; outcome = r.outcome }
 
 abbrev pub lingering : Calls
 lingering = taking (λ c t source bytes now. linger t (processed c t source bytes now))
@@ -174,8 +174,8 @@ awaiting = polling awaits
 -- Says 8 by the longest message that there could be, when one is due.
 unfoldable pub hurry : Client → Tables → Rand → List ℕ → PolledInto → PollOutcome → PolledInto
 hurry c t g b r (Answered a) =
-    if eqb a.length 0 then r
-    else if too_short b (c.settings.mtu - 20) then refused_by c t g b 8
+    when eqb a.length 0 then r
+    else when too_short b (c.settings.mtu - 20) then refused_by c t g b 8
     else r
 hurry c t g b r (Refused number) = r
 
@@ -207,7 +207,7 @@ late = polling (λ c t g now b. waking_at (moment (plus (wake_of (our_poll c t g
 
 -- Compares moments as plain numbers: wakes at the smaller one of its deadline and 24 hours on.
 unfoldable pub smaller : ℕ → ℕ → ℕ
-smaller a b = if leb a b then a else b
+smaller a b = when leb a b then a else b
 
 abbrev pub unwrapped : Calls
 unwrapped = polling (λ c t g now b.

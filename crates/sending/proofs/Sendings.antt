@@ -6,7 +6,7 @@ use mathlib.Core.List.{List}
 use native.Mathlib.Omega.{arith}
 use lib.ListN.{length, length-append}
 use lib.Dec.{leb}
-use Rattle.choice.specs.Choice.{if◌then◌else◌}
+use Rattle.choice.specs.Choice.{when◌then◌else◌}
 use Rattle.clock.specs.Generator.{drawn32}
 use Rattle.clock.specs.declared.rand.Rand.{Rand}
 use Rattle.choice.proofs.Choices.{if_false}
@@ -30,11 +30,11 @@ use Rattle.sending.specs.Sendings.{unspecified, draws, id_for, rand_after, drawn
 -- the id of a message, drawn or kept
 module _ (id : ℕ) (g : Rand) (s : Sending) where
   pub draws_new : draws s ≡ true → drawn_for id g s ≡ drawn32 g
-  unfolding id_for rand_after if◌then◌else◌
+  unfolding id_for rand_after when◌then◌else◌
   draws_new e = rw e refl
 
   pub draws_none : draws s ≡ false → drawn_for id g s ≡ record { rand = g; value = id }
-  unfolding id_for rand_after if◌then◌else◌
+  unfolding id_for rand_after when◌then◌else◌
   draws_none e = rw e refl
 
 -- what is left in the buffer, by the writer's answer
@@ -80,7 +80,7 @@ module _ (settings : Settings) (h : refusal_of settings ≡ None) (lease : DhcpL
 
   -- The writer refuses by 8 alone, and only where the datagram does not fit.
   pub fits_or_not : (s : Sending) (room : ℕ)
-      → (if leb (8 + length (body_of settings lease id s)) room then Length (8 + length (body_of settings lease id s)) else Refused 8) ≡ wrote settings lease id s room
+      → (when leb (8 + length (body_of settings lease id s)) room then Length (8 + length (body_of settings lease id s)) else Refused 8) ≡ wrote settings lease id s room
   unfolding wrote written
   fits_or_not s room =
       let u = unrefused settings h in

@@ -1,6 +1,6 @@
 -- A message that is due (document 01, "Polling"): its transaction id, its fields, where it goes from and to, and the datagram.
 use Rattle.std.specs.Prelude.{ℕ, Bool, true, false, List, length}
-use Rattle.choice.specs.Choice.{if◌then◌else◌}
+use Rattle.choice.specs.Choice.{when◌then◌else◌}
 use Rattle.clock.specs.Generator.{drawn32}
 use Rattle.clock.specs.declared.rand.Rand.{Rand}
 use Rattle.clock.specs.declared.rand.Drawn32.{Drawn32}
@@ -34,10 +34,10 @@ draws (Renew s) = true
 
 -- Its id, where the client has one already, and the generator after it.
 unfoldable pub id_for : ℕ → Rand → Sending → ℕ
-id_for id g sending = if draws sending then (drawn32 g).value else id
+id_for id g sending = when draws sending then (drawn32 g).value else id
 
 unfoldable pub rand_after : Rand → Sending → Rand
-rand_after g sending = if draws sending then (drawn32 g).rand else g
+rand_after g sending = when draws sending then (drawn32 g).rand else g
 
 abbrev pub drawn_for : ℕ → Rand → Sending → Drawn32
 drawn_for id g sending = record { rand = rand_after g sending; value = id_for id g sending }
@@ -50,7 +50,7 @@ fields_of settings lease id (Renew s) = message_of settings request id lease.add
 
 -- "Before rebind it goes to the OFFER's source address [..]. From rebind on it is broadcast."
 unfoldable pub renews_to : Bool → ℕ → ℕ
-renews_to rebinding server = if rebinding then broadcast else server
+renews_to rebinding server = when rebinding then broadcast else server
 
 -- Where it goes from and to: "Discover and the Requests of Requesting go from 0.0.0.0 to 255.255.255.255, those of Renewing
 -- from the lease's address."

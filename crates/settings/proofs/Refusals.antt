@@ -7,7 +7,7 @@ use native.Mathlib.Omega.{arith}
 use lib.ListN.{length, take, length-take}
 use lib.Dec.{leb, ltb}
 use borrow.Author.Tests.{leb-true, ltb-false, le-leb, le-ltb, not-false}
-use Rattle.choice.specs.Choice.{if◌then◌else◌}
+use Rattle.choice.specs.Choice.{when◌then◌else◌}
 use Rattle.choice.proofs.Choices.{if_true, if_false, if_cases}
 use Rattle.octets.specs.Items.{whole_items, whole_from}
 use Rattle.octets.specs.Codes.{mask_code, router_code, dns_code}
@@ -25,7 +25,7 @@ use Rattle.settings.specs.declared.settings.Settings.{Settings}
 
 -- a list that is there is within its limit
 pub list_within : (listed : Bool) (n : ℕ) → list_fits listed n ≡ true → listed ≡ true → n ≤ 64
-unfolding list_fits if◌then◌else◌
+unfolding list_fits when◌then◌else◌
 list_within true n h t = leb-true n 64 h
 list_within false n h t = let q : n ≡ 0 = cc in omega (arith, q)
 
@@ -49,16 +49,16 @@ take_within : (n most : ℕ) (xs : List ℕ) → n ≤ most → length (take n x
 take_within n most xs h = simp length-take (omega arith)
 
 list_fits_lem : (s : Settings) → Counted s → list_fits true (length (list_of s)) ≡ true
-unfolding list_fits if◌then◌else◌ list_of
+unfolding list_fits when◌then◌else◌ list_of
 list_fits_lem s k = step s.listed refl
   where
-    step : (b : Bool) → s.listed ≡ b → leb (length (if s.listed then take s.list_len s.list else (mask_code ∷ router_code ∷ dns_code ∷ []))) 64 ≡ true
+    step : (b : Bool) → s.listed ≡ b → leb (length (when s.listed then take s.list_len s.list else (mask_code ∷ router_code ∷ dns_code ∷ []))) 64 ≡ true
     step true t = rw t (le-leb _ _ (take_within s.list_len 64 s.list (list_within s.listed s.list_len k.list t)))
     step false t = rw t refl
 
 module _ (s : Settings) (k : Counted s) where
   -- within its limits, a message is refused for extra options that are not whole alone
-  pub measuring : (m : Message) → m.asks ≡ true → (if not (whole_items (extra_of s)) then Refused 5 else Length (length (message m (name_of s) (list_of s) (extra_of s)))) ≡ measured m (name_of s) (list_of s) (extra_of s)
+  pub measuring : (m : Message) → m.asks ≡ true → (when not (whole_items (extra_of s)) then Refused 5 else Length (length (message m (name_of s) (list_of s) (extra_of s)))) ≡ measured m (name_of s) (list_of s) (extra_of s)
   unfolding measured
   measuring m a =
       if_false _ (le-ltb _ _ (take_within s.name_len 63 s.name k.name))
@@ -67,7 +67,7 @@ module _ (s : Settings) (k : Counted s) where
 
 -- the longest message from the counts
 pub longest_length_lem : (s : Settings) → length s.hardware ≡ 6 → longest_length s ≡ 269 + length (name_option (name_of s)) + (2 + length (list_of s)) + length (extra_of s)
-unfolding address_option size_option option_if if◌then◌else◌
+unfolding address_option size_option option_if when◌then◌else◌
 longest_length_lem s h = omega (arith, message_length_lem (longest s) (name_of s) (list_of s) (extra_of s) h)
 
 -- an empty list is whole items

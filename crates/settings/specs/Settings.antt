@@ -1,6 +1,6 @@
 -- What a client is created with, and document 01's numbers 1 to 7, which refuse it.
 use Rattle.std.specs.Prelude.{ℕ, ◌-◌, ◌≤◌, Bool, true, false, not, List, [], ◌∷◌, ◌≡◌, length, take, replicate, ltb}
-use Rattle.choice.specs.Choice.{if◌then◌else◌}
+use Rattle.choice.specs.Choice.{when◌then◌else◌}
 use Rattle.clock.specs.Durations.{duration}
 use Rattle.clock.specs.Durations as durations
 use Rattle.clock.specs.Waits.{standard_waits}
@@ -46,14 +46,14 @@ abbrev pub name_of : Settings → List ℕ
 name_of s = take s.name_len s.name
 
 unfoldable pub list_of : Settings → List ℕ
-list_of s = if s.listed then take s.list_len s.list else (mask_code ∷ router_code ∷ dns_code ∷ [])
+list_of s = when s.listed then take s.list_len s.list else (mask_code ∷ router_code ∷ dns_code ∷ [])
 
 abbrev pub extra_of : Settings → List ℕ
 extra_of s = take s.extra_len s.extra
 
 -- The maximum, if there is one.
 unfoldable pub maximum_of : Settings → MaybeDuration
-maximum_of s = if s.capped then time.Some s.maximum else time.None
+maximum_of s = when s.capped then time.Some s.maximum else time.None
 
 -- How long a client waits: document 01's waits, whatever the settings.
 abbrev pub waits_of : Settings → Waits
@@ -82,30 +82,30 @@ longest_length s = length (message (longest s) (name_of s) (list_of s) (extra_of
 
 -- Whether there is a maximum over the longest duration.
 unfoldable pub over_cap : Settings → Bool
-over_cap s = if s.capped then ltb durations.longest s.maximum.millis else false
+over_cap s = when s.capped then ltb durations.longest s.maximum.millis else false
 
 -- 5 extra options not whole items; 6 maximum over 1,073,741,824 ms; 7 longest message over MTU − 28.
 unfoldable pub size_refusal : Settings → MaybeNumber
 size_refusal s =
-    if not (whole_items (extra_of s)) then Some 5
-    else if over_cap s then Some 6
-    else if ltb (s.mtu - 28) (longest_length s) then Some 7
+    when not (whole_items (extra_of s)) then Some 5
+    else when over_cap s then Some 6
+    else when ltb (s.mtu - 28) (longest_length s) then Some 7
     else None
 
 -- 3 name over 63 octets; 4 request list over 64; 5 extra options over 255 octets.
 unfoldable pub lists_refusal : Settings → MaybeNumber
 lists_refusal s =
-    if ltb name_limit s.name_len then Some 3
-    else if not (list_fits s.listed s.list_len) then Some 4
-    else if ltb extra_limit s.extra_len then Some 5
+    when ltb name_limit s.name_len then Some 3
+    else when not (list_fits s.listed s.list_len) then Some 4
+    else when ltb extra_limit s.extra_len then Some 5
     else size_refusal s
 
 -- The first of 1 to 7 that refuses settings: 1 medium not Ethernet; 2 MTU outside 576 to 1,500; then the above.
 unfoldable pub refusal_of : Settings → MaybeNumber
 refusal_of s =
-    if not (is_ethernet s.medium) then Some 1
-    else if ltb s.mtu 576 then Some 2
-    else if ltb 1500 s.mtu then Some 2
+    when not (is_ethernet s.medium) then Some 1
+    else when ltb s.mtu 576 then Some 2
+    else when ltb 1500 s.mtu then Some 2
     else lists_refusal s
 
 -- For contracts within this crate, which no public one cites: settings whose counts are within their limits.

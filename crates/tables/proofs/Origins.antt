@@ -1,7 +1,7 @@
 -- What a lease does to DHCP's own entries and to the others, and that whole tables stay whole under it. Assumes nothing.
 use Rattle.std.proofs.Common.{◌≡◌, ◌≤◌, Bool, true, false, not, ◌&&◌, eqb, List, [], ◌++◌, length, refl, ap, ◌∙◌, append-nil, arith, eq-eqb, eqb-true}
 use borrow.Author.Tests.{not-true}
-use Rattle.choice.specs.Choice.{if◌then◌else◌}
+use Rattle.choice.specs.Choice.{when◌then◌else◌}
 use Rattle.octets.specs.declared.number.MaybeNumber.{MaybeNumber}
 use Rattle.octets.specs.declared.number.MaybeNumber.TheVariants.{None, Some}
 use Rattle.tables.specs.Entries.{only, all, less_lost, entered}
@@ -66,30 +66,30 @@ leased_routes_none (Some a) = only_passes route_is_manual (default_route a) [] r
 
 -- what a lease does to one table
 own_addrs_leased : (t : AddrTable) (new : MaybeCidr) (same : Bool) → only addr_is_dhcp (addrs_of (applied_addrs t new same))
-    ≡ if same then only addr_is_dhcp (addrs_of t) else less_lost (only addr_is_manual (addrs_of t)) (leased_addrs new)
-unfolding applied_addrs if◌then◌else◌
+    ≡ when same then only addr_is_dhcp (addrs_of t) else less_lost (only addr_is_manual (addrs_of t)) (leased_addrs new)
+unfolding applied_addrs when◌then◌else◌
 own_addrs_leased t new true = refl
 own_addrs_leased t new false =
     ap (only addr_is_dhcp) (addrs_made (entered (only addr_is_manual (addrs_of t)) (leased_addrs new)))
     ∙ own_entered addr_is_dhcp (addrs_of t) (leased_addrs new) (leased_addrs_own new)
 
 other_addrs_leased : (t : AddrTable) (new : MaybeCidr) (same : Bool) → only addr_is_manual (addrs_of (applied_addrs t new same)) ≡ only addr_is_manual (addrs_of t)
-unfolding applied_addrs if◌then◌else◌
+unfolding applied_addrs when◌then◌else◌
 other_addrs_leased t new true = refl
 other_addrs_leased t new false =
     ap (only addr_is_manual) (addrs_made (entered (only addr_is_manual (addrs_of t)) (leased_addrs new)))
     ∙ others_entered addr_is_dhcp (addrs_of t) (leased_addrs new) (leased_addrs_none new)
 
 own_routes_leased : (t : RouteTable) (new : MaybeNumber) (same : Bool) → only route_is_dhcp (routes_of (applied_routes t new same))
-    ≡ if same then only route_is_dhcp (routes_of t) else less_lost (only route_is_manual (routes_of t)) (leased_routes new)
-unfolding applied_routes if◌then◌else◌
+    ≡ when same then only route_is_dhcp (routes_of t) else less_lost (only route_is_manual (routes_of t)) (leased_routes new)
+unfolding applied_routes when◌then◌else◌
 own_routes_leased t new true = refl
 own_routes_leased t new false =
     ap (only route_is_dhcp) (routes_made (entered (only route_is_manual (routes_of t)) (leased_routes new)))
     ∙ own_entered route_is_dhcp (routes_of t) (leased_routes new) (leased_routes_own new)
 
 other_routes_leased : (t : RouteTable) (new : MaybeNumber) (same : Bool) → only route_is_manual (routes_of (applied_routes t new same)) ≡ only route_is_manual (routes_of t)
-unfolding applied_routes if◌then◌else◌
+unfolding applied_routes when◌then◌else◌
 other_routes_leased t new true = refl
 other_routes_leased t new false =
     ap (only route_is_manual) (routes_made (entered (only route_is_manual (routes_of t)) (leased_routes new)))
@@ -99,14 +99,14 @@ other_routes_leased t new false =
 -- changed, and the others stay.
 module _ (t : Tables) (new old : Installed) where
   pub own_addrs_applied : dhcp_addrs (applied t new old).tables
-      ≡ if same_cidr new.address old.address then dhcp_addrs t else less_lost (other_addrs t) (leased_addrs new.address)
+      ≡ when same_cidr new.address old.address then dhcp_addrs t else less_lost (other_addrs t) (leased_addrs new.address)
   own_addrs_applied = own_addrs_leased t.ip_addrs new.address (same_cidr new.address old.address)
 
   pub other_addrs_applied : other_addrs (applied t new old).tables ≡ other_addrs t
   other_addrs_applied = other_addrs_leased t.ip_addrs new.address (same_cidr new.address old.address)
 
   pub own_routes_applied : dhcp_routes (applied t new old).tables
-      ≡ if same_router new.router old.router then dhcp_routes t else less_lost (other_routes t) (leased_routes new.router)
+      ≡ when same_router new.router old.router then dhcp_routes t else less_lost (other_routes t) (leased_routes new.router)
   own_routes_applied = own_routes_leased t.routes new.router (same_router new.router old.router)
 
   pub other_routes_applied : other_routes (applied t new old).tables ≡ other_routes t
@@ -114,7 +114,7 @@ module _ (t : Tables) (new old : Installed) where
 
 -- whole tables stay whole under a lease whose prefix fits
 whole_addrs_leased : (t : AddrTable) (new : MaybeCidr) (same : Bool) → all addr_fits (leased_addrs new) ≡ true → whole_addrs t ≡ true → whole_addrs (applied_addrs t new same) ≡ true
-unfolding applied_addrs if◌then◌else◌
+unfolding applied_addrs when◌then◌else◌
 whole_addrs_leased t new true f h = h
 whole_addrs_leased t new false f h = sound_addrs (entered (only addr_is_manual (addrs_of t)) (leased_addrs new)) (sound_entered addr_fits addr_is_manual (addrs_of t) (leased_addrs new) (addrs_sound t h) f (one_addr new))
   where
@@ -128,7 +128,7 @@ leased_routes_fit None = (refl, omega arith)
 leased_routes_fit (Some a) = (all_takes route_fits (default_route a) [] refl, omega arith)
 
 whole_routes_leased : (t : RouteTable) (new : MaybeNumber) (same : Bool) → whole_routes t ≡ true → whole_routes (applied_routes t new same) ≡ true
-unfolding applied_routes if◌then◌else◌
+unfolding applied_routes when◌then◌else◌
 whole_routes_leased t new true h = h
 whole_routes_leased t new false h =
     let f = leased_routes_fit new in

@@ -2,7 +2,7 @@
 -- the lease stands. Each run of dhcpv4_apply adds 1 to config_generation, with wrap: once where address and route both
 -- change, and once where only DNS or stored options do." What is entered, and when, is the Rust's.
 use Rattle.std.specs.Prelude.{ℕ, ◌+◌, ◌%◌, ◌^◌, Bool, true, false, not, ◌&&◌, List, [], ◌∷◌, ◌==◌}
-use Rattle.choice.specs.Choice.{if◌then◌else◌}
+use Rattle.choice.specs.Choice.{when◌then◌else◌}
 use Rattle.octets.specs.declared.number.MaybeNumber.{MaybeNumber}
 use Rattle.octets.specs.declared.number.MaybeNumber.TheVariants.{None, Some}
 use Rattle.tables.specs.Entries.{only, entered}
@@ -49,10 +49,10 @@ leased_routes (Some router) = default_route router ∷ []
 -- A table after it: DHCP's entries are out, and the new one is last, if there is room; as it is where the value is the
 -- same.
 unfoldable pub applied_addrs : AddrTable → MaybeCidr → Bool → AddrTable
-applied_addrs t new same = if same then t else addr_table (entered (only addr_is_manual (addrs_of t)) (leased_addrs new))
+applied_addrs t new same = when same then t else addr_table (entered (only addr_is_manual (addrs_of t)) (leased_addrs new))
 
 unfoldable pub applied_routes : RouteTable → MaybeNumber → Bool → RouteTable
-applied_routes t new same = if same then t else route_table (entered (only route_is_manual (routes_of t)) (leased_routes new))
+applied_routes t new same = when same then t else route_table (entered (only route_is_manual (routes_of t)) (leased_routes new))
 
 abbrev pub next_generation : ℕ → ℕ
 next_generation n = (n + 1) % 2 ^ 32

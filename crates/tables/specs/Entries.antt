@@ -1,27 +1,27 @@
 -- Lists of entries, whatever an entry holds, and the four places of a table.
 use Rattle.std.specs.Prelude.{ℕ, ◌-◌, Bool, true, false, List, [], ◌∷◌, ◌++◌, length, replicate, nat_le}
 use Rattle.std.proofs.Math.Option.{Option, none, some}
-use Rattle.choice.specs.Choice.{if◌then◌else◌}
+use Rattle.choice.specs.Choice.{when◌then◌else◌}
 
 -- Those of a list that pass a test, in their order.
 unfoldable pub only : {A : Type 0} → (A → Bool) → List A → List A
 only test [] = []
-only test (x ∷ xs) = if test x then x ∷ only test xs else only test xs
+only test (x ∷ xs) = when test x then x ∷ only test xs else only test xs
 
 -- Whether all of a list pass a test.
 unfoldable pub all : {A : Type 0} → (A → Bool) → List A → Bool
 all test [] = true
-all test (x ∷ xs) = if test x then all test xs else false
+all test (x ∷ xs) = when test x then all test xs else false
 
 -- Whether one of a list passes a test.
 unfoldable pub any : {A : Type 0} → (A → Bool) → List A → Bool
 any test [] = false
-any test (x ∷ xs) = if test x then true else any test xs
+any test (x ∷ xs) = when test x then true else any test xs
 
 -- The first of a list that passes a test.
 unfoldable pub first : {A : Type 0} → (A → Bool) → List A → Option A
 first test [] = none
-first test (x ∷ xs) = if test x then some x else first test xs
+first test (x ∷ xs) = when test x then some x else first test xs
 
 -- How many entries a table has room for.
 abbrev pub places : ℕ
@@ -37,7 +37,7 @@ full xs = nat_le places (length xs)
 
 -- What a table with these others takes of a new entry: a full one loses it.
 unfoldable pub less_lost : {A : Type 0} → List A → List A → List A
-less_lost others new = if full others then [] else new
+less_lost others new = when full others then [] else new
 
 -- The others, and the new entry behind them, unless it is lost.
 abbrev pub entered : {A : Type 0} → List A → List A → List A

@@ -2,7 +2,7 @@
 -- address and prefix, for a route that router too; none there is no refusal), without touching config_generation".
 -- Refused, in this order: 9 tables not whole, or the prefix over 32; 10 router not unicast; 11 table full.
 use Rattle.std.specs.Prelude.{ℕ, Bool, false, not, ◌&&◌, ◌||◌, List, [], ◌∷◌, ◌++◌, ◌==◌}
-use Rattle.choice.specs.Choice.{if◌then◌else◌}
+use Rattle.choice.specs.Choice.{when◌then◌else◌}
 use Rattle.octets.specs.Addresses.{unicast}
 use Rattle.tables.specs.Entries.{only, full}
 use Rattle.tables.specs.Tables.{addr_table, route_table, addrs_of, routes_of, prefix_fits, whole_tables}
@@ -54,27 +54,27 @@ route_stays network prefix router a = a.dhcp || not (route_matches network prefi
 
 -- What every manual call tests first.
 unfoldable pub admitted : Tables → ℕ → Bool
-admitted t prefix = if whole_tables t then prefix_fits prefix else false
+admitted t prefix = when whole_tables t then prefix_fits prefix else false
 
 unfoldable pub add_address : Tables → ℕ → ℕ → Changed
 add_address t address prefix =
-    if not (admitted t prefix) then refused t 9
-    else if full (addrs_of t.ip_addrs) then refused t 11
+    when not (admitted t prefix) then refused t 9
+    else when full (addrs_of t.ip_addrs) then refused t 11
     else changed_addrs t (addrs_of t.ip_addrs ++ (manual_addr address prefix ∷ []))
 
 unfoldable pub drop_address : Tables → ℕ → ℕ → Changed
 drop_address t address prefix =
-    if not (admitted t prefix) then refused t 9
+    when not (admitted t prefix) then refused t 9
     else changed_addrs t (only (addr_stays address prefix) (addrs_of t.ip_addrs))
 
 unfoldable pub add_route : Tables → ℕ → ℕ → ℕ → Changed
 add_route t network prefix router =
-    if not (admitted t prefix) then refused t 9
-    else if not (unicast router) then refused t 10
-    else if full (routes_of t.routes) then refused t 11
+    when not (admitted t prefix) then refused t 9
+    else when not (unicast router) then refused t 10
+    else when full (routes_of t.routes) then refused t 11
     else changed_routes t (routes_of t.routes ++ (manual_route network prefix router ∷ []))
 
 unfoldable pub drop_route : Tables → ℕ → ℕ → ℕ → Changed
 drop_route t network prefix router =
-    if not (admitted t prefix) then refused t 9
+    when not (admitted t prefix) then refused t 9
     else changed_routes t (only (route_stays network prefix router) (routes_of t.routes))

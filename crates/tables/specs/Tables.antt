@@ -1,6 +1,6 @@
 -- The tables: which entries are in use, which of them are DHCP's, and when tables are whole.
 use Rattle.std.specs.Prelude.{ℕ, Bool, false, not, List, [], length, take, nat_le}
-use Rattle.choice.specs.Choice.{if◌then◌else◌}
+use Rattle.choice.specs.Choice.{when◌then◌else◌}
 use Rattle.tables.specs.Entries.{only, all, places, in_places}
 use Rattle.tables.specs.declared.address.IfaceAddr.{IfaceAddr}
 use Rattle.tables.specs.declared.address.AddrTable.{AddrTable}
@@ -71,11 +71,11 @@ route_fits a = prefix_fits a.prefix
 
 -- Whether a table is whole: its count is not over its places, and no prefix of an entry in use is over 32.
 unfoldable pub whole_addrs : AddrTable → Bool
-whole_addrs t = if nat_le t.count places then all addr_fits (addrs_of t) else false
+whole_addrs t = when nat_le t.count places then all addr_fits (addrs_of t) else false
 
 unfoldable pub whole_routes : RouteTable → Bool
-whole_routes t = if nat_le t.count places then all route_fits (routes_of t) else false
+whole_routes t = when nat_le t.count places then all route_fits (routes_of t) else false
 
 -- Whether tables are whole.
 unfoldable pub whole_tables : Tables → Bool
-whole_tables t = if whole_addrs t.ip_addrs then whole_routes t.routes else false
+whole_tables t = when whole_addrs t.ip_addrs then whole_routes t.routes else false

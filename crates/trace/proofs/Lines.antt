@@ -7,18 +7,18 @@ use native.Mathlib.Omega.{arith}
 use lib.ListN.{length, get_or, take, drop, drop_of_length-le}
 use lib.Dec.{eqb}
 use borrow.Author.Tests.{eq-eqb, ne_eqb}
-use Rattle.choice.specs.Choice.{if◌then◌else◌}
+use Rattle.choice.specs.Choice.{when◌then◌else◌}
 use Rattle.octets.proofs.Runs.{part_tail}
 use Rattle.trace.specs.Lines.{line_length, line_at, begins_with, starts_with}
 
 -- a line by its first character
 pub line_end_lem : (t : List ℕ) → 0 < length t → get_or t 0 0 ≡ 10 → line_length t ≡ 0
-unfolding line_length if◌then◌else◌
+unfolding line_length when◌then◌else◌
 line_end_lem [] h e = absurd (omega arith)
 line_end_lem (c ∷ t) h e = simp (eq-eqb c 10 e)
 
 pub line_more : (t : List ℕ) → 0 < length t → (get_or t 0 0 ≡ 10 → ⊥) → line_length t ≡ suc (line_length (drop 1 t))
-unfolding line_length if◌then◌else◌
+unfolding line_length when◌then◌else◌
 line_more [] h e = absurd (omega arith)
 line_more (c ∷ t) h e = simp (ne_eqb c 10 e)
 
@@ -28,8 +28,8 @@ line_none [] h = refl
 line_none (c ∷ t) h = absurd (omega arith)
 
 -- a line is within its text
-longer : (b : Bool) (n m : ℕ) → n ≤ m → (if b then 0 else suc n) ≤ suc m
-unfolding if◌then◌else◌
+longer : (b : Bool) (n m : ℕ) → n ≤ m → (when b then 0 else suc n) ≤ suc m
+unfolding when◌then◌else◌
 longer true n m h = omega arith
 longer false n m h = omega arith
 
@@ -58,13 +58,13 @@ begins_short (a ∷ x) [] h k = refl
 begins_short (a ∷ x) (b ∷ y) h k = absurd (omega arith)
 
 pub begins_other : (x y : List ℕ) → 0 < length x → (length y ≡ 0 → ⊥) → (get_or x 0 0 ≡ get_or y 0 0 → ⊥) → begins_with x y ≡ false
-unfolding begins_with if◌then◌else◌
+unfolding begins_with when◌then◌else◌
 begins_other [] y h k e = absurd (omega arith)
 begins_other (a ∷ x) [] h k e = absurd (omega arith)
 begins_other (a ∷ x) (b ∷ y) h k e = simp (ne_eqb a b e)
 
 pub begins_more : (x y : List ℕ) → 0 < length x → (length y ≡ 0 → ⊥) → get_or x 0 0 ≡ get_or y 0 0 → begins_with x y ≡ begins_with (drop 1 x) (drop 1 y)
-unfolding begins_with if◌then◌else◌
+unfolding begins_with when◌then◌else◌
 begins_more [] y h k e = absurd (omega arith)
 begins_more (a ∷ x) [] h k e = absurd (omega arith)
 begins_more (a ∷ x) (b ∷ y) h k e = simp (eq-eqb a b e)

@@ -8,7 +8,7 @@ use lib.Dec.{leb}
 use lib.ListN.{length, drop, set, length-append, length-drop}
 use borrow.Author.Tests.{le-leb, lt-leb}
 use Rattle.choice.proofs.Choices.{if_true, if_false}
-use Rattle.choice.specs.Choice.{if◌then◌else◌}
+use Rattle.choice.specs.Choice.{when◌then◌else◌}
 use Rattle.trace.specs.Forms.{Part, parts_of, taken, head_part, part_size}
 use Rattle.trace.specs.Records.{most_values, padded, fitting, misfit, walk, record_of}
 use Rattle.trace.specs.declared.gap.Taken.{Taken}
@@ -26,8 +26,8 @@ padded_more (suc n) (x ∷ xs) v h = ap (λ (l : List ℕ). x ∷ l) (padded_mor
 abbrev pub after : List Part → List ℕ → ℕ → List ℕ → Taken → Record
 after parts values place line (Stopped size) = misfit (place + size)
 after parts values place line Letter = walk parts values (place + 1) (drop 1 line)
-after parts values place line (Value value size) = if leb (length values + 1) most_values then walk parts (values ++ (value ∷ [])) (place + size) (drop size line) else misfit place
-after parts values place line (Octets count) = if leb (length values + 2) most_values then walk parts (values ++ (place ∷ count ∷ [])) (place + 2 * count) (drop (2 * count) line) else misfit place
+after parts values place line (Value value size) = when leb (length values + 1) most_values then walk parts (values ++ (value ∷ [])) (place + size) (drop size line) else misfit place
+after parts values place line (Octets count) = when leb (length values + 2) most_values then walk parts (values ++ (place ∷ count ∷ [])) (place + 2 * count) (drop (2 * count) line) else misfit place
 
 pub walk_step : (part : Part) (parts : List Part) (values : List ℕ) (place : ℕ) (line : List ℕ) → walk (part ∷ parts) values place line ≡ after parts values place line (taken part line)
 unfolding walk
@@ -36,8 +36,8 @@ walk_step part parts values place line = by (taken part line)
     by : (r : Taken) → (elim r [
       | Stopped size ↦ misfit (place + size)
       | Letter ↦ walk parts values (place + 1) (drop 1 line)
-      | Value value size ↦ if leb (length values + 1) most_values then walk parts (values ++ (value ∷ [])) (place + size) (drop size line) else misfit place
-      | Octets count ↦ if leb (length values + 2) most_values then walk parts (values ++ (place ∷ count ∷ [])) (place + 2 * count) (drop (2 * count) line) else misfit place
+      | Value value size ↦ when leb (length values + 1) most_values then walk parts (values ++ (value ∷ [])) (place + size) (drop size line) else misfit place
+      | Octets count ↦ when leb (length values + 2) most_values then walk parts (values ++ (place ∷ count ∷ [])) (place + 2 * count) (drop (2 * count) line) else misfit place
     ]) ≡ after parts values place line r
     by (Stopped size) = refl
     by Letter = refl

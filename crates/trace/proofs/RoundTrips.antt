@@ -8,7 +8,7 @@ use lib.ListN.{length, take, drop, get_or, length-append, length-drop}
 use lib.Seq.{drop_at, length-take-le, get_or-take, get_or-drop}
 use lib.Dec.{eqb, ltb}
 use borrow.Author.Tests.{le-leb, eq-eqb, ne_eqb, ltb-false}
-use Rattle.choice.specs.Choice.{if◌then◌else◌}
+use Rattle.choice.specs.Choice.{when◌then◌else◌}
 use Rattle.choice.proofs.Choices.{if_true}
 use Rattle.octets.specs.declared.number.MaybeNumber.TheVariants.{Some}
 use Rattle.octets.proofs.Words.{joined32}
@@ -34,10 +34,10 @@ most_of Unknown = 0
 most_of (Most most) = most
 
 limit_fits : (kind : ℕ) → most_of (limit_of kind) ≤ 18446744073709551615
-unfolding limit_of if◌then◌else◌
+unfolding limit_of when◌then◌else◌
 limit_fits kind = by (eqb kind char_b) (eqb kind char_c) (eqb kind char_h) (eqb kind char_w) (eqb kind char_q)
   where
-    by : (b c h w q : Bool) → most_of (if b then Most 1 else if c then Most 255 else if h then Most 65535 else if w then Most 4294967295 else if q then Most 18446744073709551615 else Unknown) ≤ 18446744073709551615
+    by : (b c h w q : Bool) → most_of (when b then Most 1 else when c then Most 255 else when h then Most 65535 else when w then Most 4294967295 else when q then Most 18446744073709551615 else Unknown) ≤ 18446744073709551615
     by true c h w q = omega arith
     by false true h w q = omega arith
     by false false true w q = omega arith
@@ -50,15 +50,15 @@ no_limit : (kind most : ℕ) → limit_of kind ≡ Unknown → limit_of kind ≡
 no_limit kind most u e = let z : ◌≡◌ {A = ℕ} 0 1 = cc in omega arith
 
 limit_not_a : (kind most : ℕ) → limit_of kind ≡ Most most → kind ≡ char_a → ⊥
-unfolding limit_of if◌then◌else◌
+unfolding limit_of when◌then◌else◌
 limit_not_a kind most e q = no_limit kind most (ap limit_of q) e
 
 limit_not_x : (kind most : ℕ) → limit_of kind ≡ Most most → kind ≡ char_x → ⊥
-unfolding limit_of if◌then◌else◌
+unfolding limit_of when◌then◌else◌
 limit_not_x kind most e q = no_limit kind most (ap limit_of q) e
 
 number_address : (text : List ℕ) → number_of char_a text ≡ address text
-unfolding number_of if◌then◌else◌
+unfolding number_of when◌then◌else◌
 number_address text = refl
 
 -- ---- what a gap takes of the text that fills it
@@ -67,7 +67,7 @@ field_taken kind (number v) = Value v (length (field_text kind (number v)))
 field_taken kind (octets os) = Octets (length os)
 
 field_taken_lem : (kind : ℕ) (field : Field) (rest : List ℕ) → Fills kind field → NoDigit rest → taken (gap kind) (field_text kind field ++ rest) ≡ field_taken kind field
-unfolding gap_taken octets_taken if◌then◌else◌
+unfolding gap_taken octets_taken when◌then◌else◌
 field_taken_lem kind (number v) rest (decimals {most = most} e h) n =
     let a = limit_not_a kind most e in
     let x = limit_not_x kind most e in
@@ -80,27 +80,27 @@ field_taken_lem kind (octets os) rest (bytes o h) n =
 
 -- ---- a form whose gaps stand apart
 rest_no_digit : (kind : ℕ) (parts : List Part) (fields : List Field) → apart (gap kind ∷ parts) ≡ true → NoDigit (record_text parts fields)
-unfolding apart record_text if◌then◌else◌
+unfolding apart record_text when◌then◌else◌
 rest_no_digit kind [] fields e = tt
 rest_no_digit kind (gap other ∷ parts) fields e = absurd (true≢false (sym e))
 rest_no_digit kind (letter s ∷ parts) fields e = by (ltb (digit_of s) 16) refl e
   where
-    by : (b : Bool) → ltb (digit_of s) 16 ≡ b → (if b then false else apart parts) ≡ true → 16 ≤ digit_of s
+    by : (b : Bool) → ltb (digit_of s) 16 ≡ b → (when b then false else apart parts) ≡ true → 16 ≤ digit_of s
     by true t q = absurd (true≢false (sym q))
     by false t q = ltb-false (digit_of s) 16 t
 
 rest_apart : (kind : ℕ) (parts : List Part) → apart (gap kind ∷ parts) ≡ true → apart parts ≡ true
-unfolding apart if◌then◌else◌
+unfolding apart when◌then◌else◌
 rest_apart kind [] e = refl
 rest_apart kind (gap other ∷ parts) e = absurd (true≢false (sym e))
 rest_apart kind (letter s ∷ parts) e = by (ltb (digit_of s) 16) e
   where
-    by : (b : Bool) → (if b then false else apart parts) ≡ true → apart parts ≡ true
+    by : (b : Bool) → (when b then false else apart parts) ≡ true → apart parts ≡ true
     by true q = absurd (true≢false (sym q))
     by false q = q
 
 letter_taken_lem : (s : ℕ) (text : List ℕ) → taken (letter s) (s ∷ text) ≡ Letter
-unfolding letter_taken starts_with if◌then◌else◌
+unfolding letter_taken starts_with when◌then◌else◌
 letter_taken_lem s text = simp (eq-eqb s s refl)
 
 -- ---- the walk, from any place on
@@ -160,7 +160,7 @@ number_not_x {kind} (decimals {most = most} e h) x = limit_not_x kind most e x
 number_not_x (addresses h) x = omega arith
 
 number_field : (kind v : ℕ) (values source : List ℕ) → Fills kind (number v) → (width kind ≡ 1) × (field_of kind (v ∷ values) source ≡ number v)
-unfolding width field_of if◌then◌else◌
+unfolding width field_of when◌then◌else◌
 number_field kind v values source f = (simp (ne_eqb kind char_x (number_not_x f)), simp (ne_eqb kind char_x (number_not_x f)))
 
 at_hand : (place count : ℕ) (source : List ℕ) → place + count ≤ length source → length (take count (drop place source)) ≡ count
@@ -179,7 +179,7 @@ module _ {source : List ℕ} where
   given_fields (given_octets {place = place} {count = count} h f g) = octets (take count (drop place source)) ∷ given_fields g
 
   given_fields_lem : {parts : List Part} {values : List ℕ} (g : Given source parts values) → fields_of parts values source ≡ given_fields g
-  unfolding fields_of width field_of if◌then◌else◌
+  unfolding fields_of width field_of when◌then◌else◌
   given_fields_lem given_none = refl
   given_fields_lem (given_letter g) = given_fields_lem g
   given_fields_lem (given_number {kind} {v} {parts} {values} f g) =

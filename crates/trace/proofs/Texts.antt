@@ -9,7 +9,7 @@ use lib.ListN.{length, get_or, drop, length-append}
 use lib.Seq.{drop-append_seam, drop-drop}
 use lib.Dec.{ltb}
 use borrow.Author.Tests.{lt-ltb, le-ltb, le-leb, ne_eqb, ltb-true, ltb-false}
-use Rattle.choice.specs.Choice.{if◌then◌else◌}
+use Rattle.choice.specs.Choice.{when◌then◌else◌}
 use Rattle.octets.specs.declared.number.MaybeNumber.TheVariants.{None, Some}
 use Rattle.trace.specs.Lines.{starts_with}
 use Rattle.trace.specs.Digits.{digit_of, octet_of, first_octet, octet_at, pairs_of}
@@ -22,10 +22,10 @@ use Rattle.octets.specs.Words.{word32}
 
 -- ---- digits
 pub digit_char : (d : ℕ) → d < 16 → digit_of (digit_char_of d) ≡ d
-unfolding digit_of digit_char_of if◌then◌else◌
+unfolding digit_of digit_char_of when◌then◌else◌
 digit_char d h = by (ltb d 10) refl
   where
-    by : (b : Bool) → ltb d 10 ≡ b → digit_of (if b then 48 + d else 87 + d) ≡ d
+    by : (b : Bool) → ltb d 10 ≡ b → digit_of (when b then 48 + d else 87 + d) ≡ d
     by true e =
         let k : d < 10 = ltb-true d 10 e in
         let low : 48 ≤ 48 + d = omega arith in
@@ -49,11 +49,11 @@ small_append [] d s h = (h, tt)
 small_append (e ∷ ds) d s h = (s.0, small_append ds d s.1 h)
 
 small_digits : (k n : ℕ) → n < 10 ^ suc k → Small (decimal_digits k n)
-unfolding decimal_digits if◌then◌else◌
+unfolding decimal_digits when◌then◌else◌
 small_digits zero n h = (h, tt)
 small_digits (suc k) n h = by (ltb n 10) refl (λ g. small_digits k (n / 10) g)
   where
-    by : (b : Bool) → ltb n 10 ≡ b → (n / 10 < 10 ^ suc k → Small (decimal_digits k (n / 10))) → Small (if b then n ∷ [] else decimal_digits k (n / 10) ++ (n % 10 ∷ []))
+    by : (b : Bool) → ltb n 10 ≡ b → (n / 10 < 10 ^ suc k → Small (decimal_digits k (n / 10))) → Small (when b then n ∷ [] else decimal_digits k (n / 10) ++ (n % 10 ∷ []))
     by true e s = (ltb-true n 10 e, tt)
     by false e s =
         let p : 10 ^ suc (suc k) ≡ 10 ^ suc k * 10 = pow-suc 10 (suc k) in
@@ -65,11 +65,11 @@ number_append high [] d = refl
 number_append high (e ∷ ds) d = number_append (high * 10 + e) ds d
 
 number_digits : (k n : ℕ) → number_from 0 (decimal_digits k n) ≡ n
-unfolding decimal_digits number_from if◌then◌else◌
+unfolding decimal_digits number_from when◌then◌else◌
 number_digits zero n = omega arith
 number_digits (suc k) n = by (ltb n 10) (number_digits k (n / 10))
   where
-    by : (b : Bool) → number_from 0 (decimal_digits k (n / 10)) ≡ n / 10 → number_from 0 (if b then n ∷ [] else decimal_digits k (n / 10) ++ (n % 10 ∷ [])) ≡ n
+    by : (b : Bool) → number_from 0 (decimal_digits k (n / 10)) ≡ n / 10 → number_from 0 (when b then n ∷ [] else decimal_digits k (n / 10) ++ (n % 10 ∷ [])) ≡ n
     by true e = omega arith
     by false e = number_append 0 (decimal_digits k (n / 10)) (n % 10) ∙ omega arith
 
@@ -79,26 +79,26 @@ lead_kept [] d g = absurd (omega arith)
 lead_kept (e ∷ ds) d g = g
 
 lead : (k n : ℕ) → 0 < n → 0 < get_or (decimal_digits k n) 0 0
-unfolding decimal_digits if◌then◌else◌
+unfolding decimal_digits when◌then◌else◌
 lead zero n h = h
 lead (suc k) n h = by (ltb n 10) refl (λ g. lead k (n / 10) g)
   where
-    by : (b : Bool) → ltb n 10 ≡ b → (0 < n / 10 → 0 < get_or (decimal_digits k (n / 10)) 0 0) → 0 < get_or (if b then n ∷ [] else decimal_digits k (n / 10) ++ (n % 10 ∷ [])) 0 0
+    by : (b : Bool) → ltb n 10 ≡ b → (0 < n / 10 → 0 < get_or (decimal_digits k (n / 10)) 0 0) → 0 < get_or (when b then n ∷ [] else decimal_digits k (n / 10) ++ (n % 10 ∷ [])) 0 0
     by true e g = h
     by false e g = let t : 10 ≤ n = ltb-false n 10 e in lead_kept (decimal_digits k (n / 10)) (n % 10) (g (omega arith))
 
 proper_lead : (ds : List ℕ) → 0 < get_or ds 0 0 → proper ds ≡ true
-unfolding proper if◌then◌else◌
+unfolding proper when◌then◌else◌
 proper_lead [] h = absurd (omega arith)
 proper_lead (d ∷ []) h = refl
 proper_lead (d ∷ e ∷ ds) h = simp (ne_eqb d 0 (λ q. omega arith))
 
 proper_digits : (k n : ℕ) → proper (decimal_digits k n) ≡ true
-unfolding decimal_digits proper if◌then◌else◌
+unfolding decimal_digits proper when◌then◌else◌
 proper_digits zero n = refl
 proper_digits (suc k) n = by (ltb n 10) refl
   where
-    by : (b : Bool) → ltb n 10 ≡ b → proper (if b then n ∷ [] else decimal_digits k (n / 10) ++ (n % 10 ∷ [])) ≡ true
+    by : (b : Bool) → ltb n 10 ≡ b → proper (when b then n ∷ [] else decimal_digits k (n / 10) ++ (n % 10 ∷ [])) ≡ true
     by true e = refl
     by false e = let t : 10 ≤ n = ltb-false n 10 e in proper_lead (decimal_digits k (n / 10) ++ (n % 10 ∷ [])) (lead_kept (decimal_digits k (n / 10)) (n % 10) (lead k (n / 10) (omega arith)))
 
@@ -108,7 +108,7 @@ NoDigit [] = Unit {0}
 NoDigit (c ∷ text) = 16 ≤ digit_of c
 
 digits_of_chars : (ds rest : List ℕ) → Small ds → NoDigit rest → digits_of (chars_of ds ++ rest) ≡ ds
-unfolding digits_of chars_of if◌then◌else◌
+unfolding digits_of chars_of when◌then◌else◌
 digits_of_chars [] [] s h = refl
 digits_of_chars [] (c ∷ rest) s h = let k : 10 ≤ digit_of c = omega arith in simp (le-ltb (digit_of c) 10 k)
 digits_of_chars (d ∷ ds) rest s h =
@@ -121,7 +121,7 @@ chars_length [] = refl
 chars_length (d ∷ ds) = ap suc (chars_length ds)
 
 pub read_decimal : (most n : ℕ) (rest : List ℕ) → n ≤ most → n < 100000000000000000000 → NoDigit rest → decimal most (decimal_text n ++ rest) ≡ Read n (length (decimal_text n))
-unfolding decimal within if◌then◌else◌
+unfolding decimal within when◌then◌else◌
 read_decimal most n rest h g d =
     let ds = digits_of_chars (decimal_digits 19 n) rest (small_digits 19 n g) d in
     let e = number_digits 19 n in
@@ -132,13 +132,13 @@ abbrev word24 : ℕ → ℕ → ℕ → ℕ
 word24 a b c = (a * 256 + b) * 256 + c
 
 dot_no_digit : 16 ≤ digit_of dot
-unfolding digit_of if◌then◌else◌
+unfolding digit_of when◌then◌else◌
 dot_no_digit = omega arith
 
 -- a dot and a number behind what was read
 read_dotted : (before rest : List ℕ) (high n : ℕ) → n ≤ 255 → NoDigit rest
     → dotted (before ++ (dot ∷ (decimal_text n ++ rest))) (Read high (length before)) ≡ Read (high * 256 + n) (length (before ++ (dot ∷ decimal_text n)))
-unfolding starts_with if◌then◌else◌
+unfolding starts_with when◌then◌else◌
 read_dotted before rest high n h d =
     let text = before ++ (dot ∷ (decimal_text n ++ rest)) in
     let there : drop (length before) text ≡ dot ∷ (decimal_text n ++ rest) = drop-append_seam before (dot ∷ (decimal_text n ++ rest)) in
@@ -169,14 +169,14 @@ read_address a b c d rest ha hb hc hd n =
 
 -- ---- octets
 octet_text : (o : ℕ) → o < 256 → octet_of (digit_char_of (o / 16)) (digit_char_of (o % 16)) ≡ Some o
-unfolding octet_of if◌then◌else◌
+unfolding octet_of when◌then◌else◌
 octet_text o h =
     let high : o / 16 < 16 = omega arith in
     let low : o % 16 < 16 = omega arith in
     simp (digit_char (o / 16) high, digit_char (o % 16) low, lt-ltb (o / 16) 16 high, lt-ltb (o % 16) 16 low) (ap Some (omega arith))
 
 no_octet : (a b : ℕ) → 16 ≤ digit_of a → octet_of a b ≡ None
-unfolding octet_of if◌then◌else◌
+unfolding octet_of when◌then◌else◌
 no_octet a b h = simp (le-ltb (digit_of a) 16 h)
 
 pub read_pairs : (os rest : List ℕ) → AllOctets os → NoDigit rest → pairs_of (octets_text os ++ rest) ≡ length os

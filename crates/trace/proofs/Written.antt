@@ -9,7 +9,7 @@ use lib.ListN.{length, take, drop, get_or, set, length-drop, length-set, drop_of
 use lib.Seq.{take_all, take-nil}
 use lib.Dec.{eqb}
 use borrow.Author.Tests.{eq-eqb, ne_eqb, le-ltb, lt-ltb}
-use Rattle.choice.specs.Choice.{if◌then◌else◌}
+use Rattle.choice.specs.Choice.{when◌then◌else◌}
 use Rattle.choice.proofs.Choices.{if_cases}
 use Rattle.octets.proofs.Runs.{part_tail}
 use Rattle.trace.specs.Numbers.{dot}
@@ -21,11 +21,11 @@ use Rattle.trace.proofs.Writers.{Onward, written}
 
 -- ---- the character of a digit
 pub low_char : (d : ℕ) → d < 10 → 48 + d ≡ digit_char_of d
-unfolding digit_char_of if◌then◌else◌
+unfolding digit_char_of when◌then◌else◌
 low_char d h = simp (lt-ltb d 10 h)
 
 pub high_char : (d : ℕ) → 10 ≤ d → 87 + d ≡ digit_char_of d
-unfolding digit_char_of if◌then◌else◌
+unfolding digit_char_of when◌then◌else◌
 high_char d h = simp (le-ltb d 10 h)
 
 -- ---- the digits of n as characters, laid from the last place of 20 down: those of `rest` are to come, the last of them at i
@@ -59,7 +59,7 @@ laid_room {i = zero} {rest = rest} l h = let g : rest < 10 = l.few in absurd (om
 laid_room {i = suc i} l h = omega arith
 
 pub laid_more : {n i rest : ℕ} {chars : List ℕ} (k : ℕ) → Laid n chars i rest → 10 ≤ rest → i ≡ suc k → Laid n (set chars i (48 + rest % 10)) k (rest / 10)
-unfolding decimal_digits chars_of if◌then◌else◌
+unfolding decimal_digits chars_of when◌then◌else◌
 laid_more {n} {i} {rest} {chars} k l h e = record {
   size = simp length-set l.size;
   inside = omega (arith, l.inside);
@@ -77,7 +77,7 @@ laid_more {n} {i} {rest} {chars} k l h e = record {
     there = rw (sym e) (drop_set chars i (48 + rest % 10) (omega (arith, l.size, l.inside)))
 
 pub laid_last : {n i rest : ℕ} {chars : List ℕ} → Laid n chars i rest → rest < 10 → take (20 - i) (drop i (set chars i (48 + rest))) ≡ decimal_text n
-unfolding decimal_digits chars_of if◌then◌else◌
+unfolding decimal_digits chars_of when◌then◌else◌
 laid_last {n} {i} {rest} {chars} l h =
     take_all (20 - i) (drop i (set chars i (48 + rest))) (simp (length-drop, length-set) (omega (arith, l.size)))
     ∙ drop_set chars i (48 + rest) (omega (arith, l.size, l.inside)) ∙ sym (l.text ∙ one_digit i)
@@ -95,11 +95,11 @@ pub letter_width : (f : List ℕ) → (get_or f 0 0 ≡ percent → ⊥) → 0 �
 letter_width f n = ap part_width (sym (head_letter f n))
 
 pub octets_width : (f : List ℕ) → get_or f 0 0 ≡ percent → get_or f 1 0 ≡ char_x → 2 ≡ part_width (head_part f)
-unfolding width if◌then◌else◌
+unfolding width when◌then◌else◌
 octets_width f e x = rw (head_gap f e) (simp (eq-eqb _ _ x))
 
 pub number_width : (f : List ℕ) → get_or f 0 0 ≡ percent → (get_or f 1 0 ≡ char_x → ⊥) → 1 ≡ part_width (head_part f)
-unfolding width if◌then◌else◌
+unfolding width when◌then◌else◌
 number_width f e x = rw (head_gap f e) (simp (ne_eqb _ _ x))
 
 pub few_values : (part : Part) → part_width part ≤ 2
@@ -115,15 +115,15 @@ pub gap_text : (f v s : List ℕ) → get_or f 0 0 ≡ percent → part_text (he
 gap_text f v s e = ap (λ (part : Part). part_text part v s) (head_gap f e)
 
 pub octets_text_lem : (kind : ℕ) (v s : List ℕ) → kind ≡ char_x → field_text kind (field_of kind v s) ≡ octets_text (take (get_or v 1 0) (drop (get_or v 0 0) s))
-unfolding field_of if◌then◌else◌
+unfolding field_of when◌then◌else◌
 octets_text_lem kind v s x = simp (eq-eqb kind char_x x)
 
 pub address_text_lem : (kind : ℕ) (v s : List ℕ) → (kind ≡ char_x → ⊥) → kind ≡ char_a → field_text kind (field_of kind v s) ≡ address_text (get_or v 0 0)
-unfolding field_of if◌then◌else◌
+unfolding field_of when◌then◌else◌
 address_text_lem kind v s x a = simp (ne_eqb kind char_x x, eq-eqb kind char_a a)
 
 pub decimal_text_lem : (kind : ℕ) (v s : List ℕ) → (kind ≡ char_x → ⊥) → (kind ≡ char_a → ⊥) → field_text kind (field_of kind v s) ≡ decimal_text (get_or v 0 0)
-unfolding field_of if◌then◌else◌
+unfolding field_of when◌then◌else◌
 decimal_text_lem kind v s x a = simp (ne_eqb kind char_x x, ne_eqb kind char_a a)
 
 -- an address is two pairs of numbers

@@ -1,6 +1,6 @@
 -- Numbers in decimal, "no sign, no leading zero", and addresses, "four numbers of 8 bits with dots" (docs/TRACE.md).
 use Rattle.std.specs.Prelude.{ℕ, ◌+◌, ◌*◌, ◌≤◌, Bool, true, false, List, [], ◌∷◌, length, drop, eqb, ltb, leb}
-use Rattle.choice.specs.Choice.{if◌then◌else◌}
+use Rattle.choice.specs.Choice.{when◌then◌else◌}
 use Rattle.trace.specs.Lines.{starts_with}
 use Rattle.trace.specs.Digits.{digit_of}
 use Rattle.trace.specs.declared.number.Number.{Number}
@@ -9,7 +9,7 @@ use Rattle.trace.specs.declared.number.Number.TheVariants.{Stopped, Read}
 -- The decimal digits that a text begins with, by their values.
 unfoldable pub digits_of : List ℕ → List ℕ
 digits_of [] = []
-digits_of (c ∷ text) = if ltb (digit_of c) 10 then digit_of c ∷ digits_of text else []
+digits_of (c ∷ text) = when ltb (digit_of c) 10 then digit_of c ∷ digits_of text else []
 
 -- The number whose digits are those of `high` and then these.
 unfoldable pub number_from : ℕ → List ℕ → ℕ
@@ -20,16 +20,16 @@ number_from high (d ∷ ds) = number_from (high * 10 + d) ds
 unfoldable pub proper : List ℕ → Bool
 proper [] = false
 proper (d ∷ []) = true
-proper (d ∷ e ∷ ds) = if eqb d 0 then false else true
+proper (d ∷ e ∷ ds) = when eqb d 0 then false else true
 
 -- The number that digits write, with their count, if it is at most `most`.
 unfoldable pub within : ℕ → List ℕ → Number
-within most ds = if leb (number_from 0 ds) most then Read (number_from 0 ds) (length ds) else Stopped 0
+within most ds = when leb (number_from 0 ds) most then Read (number_from 0 ds) (length ds) else Stopped 0
 
 -- The number of at most `most` that a text begins with. It ends where no digit follows. Where there is none, reading
 -- stops where the number would begin.
 unfoldable pub decimal : ℕ → List ℕ → Number
-decimal most text = if proper (digits_of text) then within most (digits_of text) else Stopped 0
+decimal most text = when proper (digits_of text) then within most (digits_of text) else Stopped 0
 
 -- One number more of an address, behind `size` characters that give `high`.
 abbrev pub joined : ℕ → ℕ → Number → Number
@@ -43,7 +43,7 @@ dot = 46
 -- A dot and one number more, behind what was read of an address.
 abbrev pub dotted : List ℕ → Number → Number
 dotted text (Stopped n) = Stopped n
-dotted text (Read high n) = if starts_with dot (drop n text) then joined high (n + 1) (decimal 255 (drop (n + 1) text)) else Stopped n
+dotted text (Read high n) = when starts_with dot (drop n text) then joined high (n + 1) (decimal 255 (drop (n + 1) text)) else Stopped n
 
 -- The address that a text begins with, as a number of 32 bits, the high octet first.
 unfoldable pub address : List ℕ → Number

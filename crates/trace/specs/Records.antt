@@ -1,6 +1,6 @@
 -- A line read along its form: "Whoever reads or writes a record walks along its form" (docs/TRACE.md, "Lines").
 use Rattle.std.specs.Prelude.{ℕ, zero, suc, ◌+◌, ◌*◌, true, false, List, [], ◌∷◌, ◌++◌, length, drop, leb}
-use Rattle.choice.specs.Choice.{if◌then◌else◌}
+use Rattle.choice.specs.Choice.{when◌then◌else◌}
 use Rattle.trace.specs.Forms.{Part, parts_of, taken}
 use Rattle.trace.specs.declared.gap.Taken.TheVariants.{Stopped, Letter, Value, Octets}
 use Rattle.trace.specs.declared.record.Record.{Record}
@@ -34,10 +34,10 @@ walk (part ∷ parts) values place line =
       | Stopped size ↦ misfit (place + size)
       | Letter ↦ walk parts values (place + 1) (drop 1 line)
       | Value value size ↦
-          if leb (length values + 1) most_values then walk parts (values ++ (value ∷ [])) (place + size) (drop size line)
+          when leb (length values + 1) most_values then walk parts (values ++ (value ∷ [])) (place + size) (drop size line)
           else misfit place
       | Octets count ↦
-          if leb (length values + 2) most_values then walk parts (values ++ (place ∷ count ∷ [])) (place + 2 * count) (drop (2 * count) line)
+          when leb (length values + 2) most_values then walk parts (values ++ (place ∷ count ∷ [])) (place + 2 * count) (drop (2 * count) line)
           else misfit place
     ]
 

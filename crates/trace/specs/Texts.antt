@@ -1,6 +1,6 @@
 -- A record as it is written (docs/TRACE.md, "Lines"): the form's text, with each gap filled.
 use Rattle.std.specs.Prelude.{ℕ, zero, suc, ◌+◌, ◌/◌, ◌%◌, ◌≤◌, ◌<◌, Bool, true, false, List, [], ◌∷◌, ◌++◌, ◌≡◌, length, eqb, ltb}
-use Rattle.choice.specs.Choice.{if◌then◌else◌}
+use Rattle.choice.specs.Choice.{when◌then◌else◌}
 use Rattle.octets.specs.Words.{bytes32}
 use Rattle.trace.specs.Digits.{digit_of}
 use Rattle.trace.specs.Numbers.{dot}
@@ -9,7 +9,7 @@ use Rattle.trace.specs.declared.gap.Limit.TheVariants.{Most}
 
 -- The character of a digit, and the text of several.
 unfoldable pub digit_char_of : ℕ → ℕ
-digit_char_of d = if ltb d 10 then 48 + d else 87 + d
+digit_char_of d = when ltb d 10 then 48 + d else 87 + d
 
 unfoldable pub chars_of : List ℕ → List ℕ
 chars_of [] = []
@@ -18,7 +18,7 @@ chars_of (d ∷ ds) = digit_char_of d ∷ chars_of ds
 -- The digits of a number, of which there are at most one more than k.
 unfoldable pub decimal_digits : ℕ → ℕ → List ℕ
 decimal_digits zero n = n ∷ []
-decimal_digits (suc k) n = if ltb n 10 then n ∷ [] else decimal_digits k (n / 10) ++ (n % 10 ∷ [])
+decimal_digits (suc k) n = when ltb n 10 then n ∷ [] else decimal_digits k (n / 10) ++ (n % 10 ∷ [])
 
 -- A number in decimal: 64 bits need at most 20 digits.
 abbrev pub decimal_text : ℕ → List ℕ
@@ -44,7 +44,7 @@ pub data Field : Type 0 where
   octets : List ℕ → Field
 
 abbrev pub field_text : ℕ → Field → List ℕ
-field_text kind (number v) = if eqb kind char_a then address_text v else decimal_text v
+field_text kind (number v) = when eqb kind char_a then address_text v else decimal_text v
 field_text kind (octets os) = octets_text os
 
 -- The parts of a form with their gaps filled, in order.
@@ -90,4 +90,4 @@ apart [] = true
 apart (letter s ∷ parts) = apart parts
 apart (gap kind ∷ []) = true
 apart (gap kind ∷ gap other ∷ parts) = false
-apart (gap kind ∷ letter s ∷ parts) = if ltb (digit_of s) 16 then false else apart parts
+apart (gap kind ∷ letter s ∷ parts) = when ltb (digit_of s) 16 then false else apart parts

@@ -1,6 +1,6 @@
 -- What a writer leaves in the buffer that it is lent: its text from a place on, as far as there is room; and what a reader finds in it.
 use Rattle.std.specs.Prelude.{ℕ, ◌+◌, ◌-◌, ◌*◌, ◌≤◌, ◌<◌, min, ◌≡◌, List, [], ◌∷◌, ◌++◌, length, take, drop, get_or, eqb}
-use Rattle.choice.specs.Choice.{if◌then◌else◌}
+use Rattle.choice.specs.Choice.{when◌then◌else◌}
 use Rattle.octets.specs.declared.number.MaybeNumber.TheVariants.{Some}
 use Rattle.trace.specs.Digits.{octet_at}
 use Rattle.trace.specs.Forms.{char_x, Part, letter, gap, parts_of}
@@ -27,12 +27,12 @@ pub record Wrote (place : ℕ) (text before : List ℕ) (next : ℕ) (after : Li
 
 -- How many values a gap takes: %x two, the place of its first octet among the octets at hand and how many they are.
 unfoldable pub width : ℕ → ℕ
-width kind = if eqb kind char_x then 2 else 1
+width kind = when eqb kind char_x then 2 else 1
 
 -- What fills a gap. A value that is missing is 0, an octet that is missing is left out.
 unfoldable pub field_of : ℕ → List ℕ → List ℕ → Field
 field_of kind values source =
-    if eqb kind char_x then octets (take (get_or values 1 0) (drop (get_or values 0 0) source))
+    when eqb kind char_x then octets (take (get_or values 1 0) (drop (get_or values 0 0) source))
     else number (get_or values 0 0)
 
 -- What fills the gaps of a form's parts, in order.

@@ -5,7 +5,7 @@ use mathlib.Core.Path.{◌≡◌, refl, sym, ap, ◌∙◌}
 use mathlib.Core.List.{List, [], ◌∷◌, ◌++◌, append-nil, append_assoc}
 use native.Mathlib.Omega.{arith}
 use lib.ListN.{length, get_or, drop, set}
-use Rattle.choice.specs.Choice.{if◌then◌else◌}
+use Rattle.choice.specs.Choice.{when◌then◌else◌}
 use Rattle.octets.specs.Words.{word32}
 use Rattle.octets.specs.Addresses.{unicast}
 use Rattle.wire.specs.Readings.{unicast_ones, groups_of, first_three}
@@ -27,18 +27,18 @@ three_more (b ∷ c ∷ []) a h = refl
 three_more (b ∷ c ∷ d ∷ done) a h = absurd (omega arith)
 
 pub ones_kept : (a : ℕ) (xs : List ℕ) → unicast a ≡ true → unicast_ones (a ∷ xs) ≡ a ∷ unicast_ones xs
-unfolding unicast_ones if◌then◌else◌
+unfolding unicast_ones when◌then◌else◌
 ones_kept a xs e = rw e
 
 pub ones_left : (a : ℕ) (xs : List ℕ) → unicast a ≡ false → unicast_ones (a ∷ xs) ≡ unicast_ones xs
-unfolding unicast_ones if◌then◌else◌
+unfolding unicast_ones when◌then◌else◌
 ones_left a xs e = rw e
 
 ones_split : (a : ℕ) (xs : List ℕ) → unicast_ones (a ∷ xs) ≡ unicast_ones (a ∷ []) ++ unicast_ones xs
-unfolding unicast_ones if◌then◌else◌
+unfolding unicast_ones when◌then◌else◌
 ones_split a xs = by (unicast a)
   where
-    by : (t : Bool) → (if t then a ∷ unicast_ones xs else unicast_ones xs) ≡ (if t then a ∷ [] else []) ++ unicast_ones xs
+    by : (t : Bool) → (when t then a ∷ unicast_ones xs else unicast_ones xs) ≡ (when t then a ∷ [] else []) ++ unicast_ones xs
     by true = refl
     by false = refl
 

@@ -9,7 +9,7 @@ use lib.Seq.{take-append-add, length-take-le}
 use native.Mathlib.Nat.{add-zero}
 use lib.ListN.{length, get_or, take, drop, length-append, length-take, length-drop, take-append-drop}
 use borrow.Author.Tests.{le-leb, lt-leb, eq-eqb, ne_eqb}
-use Rattle.choice.specs.Choice.{if◌then◌else◌}
+use Rattle.choice.specs.Choice.{when◌then◌else◌}
 use Rattle.octets.specs.Runs.{over, placed, placed_length}
 use Rattle.octets.specs.Items.{option, option_bytes, whole_from, whole_items}
 use Rattle.octets.proofs.Runs.{placed_whole, placed_not, placed_none, over_front, over_length}
@@ -21,13 +21,13 @@ use Rattle.wire.specs.declared.store.Got.TheVariants.{Absent, At}
 
 -- an option that does not fit, and one that does
 pub push_passed : (store : Store) (kind : ℕ) (body : List ℕ) → 256 < store.len + (2 + length body) → store ≡ pushed store kind body
-unfolding pushed if◌then◌else◌
+unfolding pushed when◌then◌else◌
 push_passed store kind body h =
     let e : 256 < store.len + length (option kind body) = omega arith in
     simp (lt-leb _ _ e)
 
 push_kept : (store : Store) (kind : ℕ) (body : List ℕ) → store.len + (2 + length body) ≤ 256 → with_option store kind body ≡ pushed store kind body
-unfolding pushed if◌then◌else◌
+unfolding pushed when◌then◌else◌
 push_kept store kind body h =
     let e : store.len + length (option kind body) ≤ 256 = omega arith in
     simp (le-leb _ _ e)
@@ -114,14 +114,14 @@ place_none kind at (x ∷ []) h = refl
 place_none kind at (x ∷ y ∷ l) h = absurd (omega arith)
 
 pub place_here : (kind at : ℕ) (l : List ℕ) → 2 ≤ length l → get_or l 0 0 ≡ kind → place_from kind at 0 l ≡ At (at + 2) (get_or l 1 0)
-unfolding place_from if◌then◌else◌
+unfolding place_from when◌then◌else◌
 place_here kind at [] h e = absurd (omega arith)
 place_here kind at (x ∷ []) h e = absurd (omega arith)
 place_here kind at (x ∷ n ∷ l) h e = simp (eq-eqb x kind e)
 
 pub place_later : (kind at : ℕ) (l : List ℕ) → 2 ≤ length l → (get_or l 0 0 ≡ kind → ⊥)
     → place_from kind at 0 l ≡ place_from kind (at + (2 + get_or l 1 0)) 0 (drop (2 + get_or l 1 0) l)
-unfolding place_from if◌then◌else◌
+unfolding place_from when◌then◌else◌
 place_later kind at [] h e = absurd (omega arith)
 place_later kind at (x ∷ []) h e = absurd (omega arith)
 place_later kind at (x ∷ n ∷ l) h e =
@@ -130,18 +130,18 @@ place_later kind at (x ∷ n ∷ l) h e =
     simp (ne_eqb x kind e) (skip kind (at + 2) n l ∙ rw (f, g))
 
 pub place_cut : (kind at : ℕ) (l : List ℕ) → 2 ≤ length l → (get_or l 0 0 ≡ kind → ⊥) → length l < 2 + get_or l 1 0 → place_from kind at 0 l ≡ Absent
-unfolding place_from if◌then◌else◌
+unfolding place_from when◌then◌else◌
 place_cut kind at [] h e c = absurd (omega arith)
 place_cut kind at (x ∷ []) h e c = absurd (omega arith)
 place_cut kind at (x ∷ n ∷ l) h e c = simp (ne_eqb x kind e) (past kind (at + 2) n l (omega arith))
 
 -- wholeness by the length in use
 pub whole_over : (store : Store) → 256 < store.len → whole_store store ≡ false
-unfolding whole_store if◌then◌else◌
+unfolding whole_store when◌then◌else◌
 whole_over store h = simp (lt-leb _ _ h)
 
 pub whole_within : (store : Store) → store.len ≤ 256 → whole_store store ≡ whole_items (used store)
-unfolding whole_store if◌then◌else◌
+unfolding whole_store when◌then◌else◌
 whole_within store h = simp (le-leb _ _ h)
 
 -- a store as the calls leave it: 256 octets, whole items in use
@@ -176,7 +176,7 @@ all_sound store [] s = s
 all_sound store (o ∷ os) s = all_sound (pushed store o.code o.body) os (push_sound store o.code o.body s)
 
 empty_sound : Sound empty_store
-unfolding whole_store if◌then◌else◌ whole_from
+unfolding whole_store when◌then◌else◌ whole_from
 empty_sound = record { size = refl; whole = refl }
 
 pub store_sound : (reply : List ℕ) → Sound (store_of reply)

@@ -11,7 +11,7 @@ use lib.ListN.{length, get_or, take, drop, length-append, length-take, length-dr
 use lib.Seq.{drop-cons, get_or-drop, drop-drop, take-append_seam, drop-append_seam}
 use lib.Dec.{eqb, ltb}
 use borrow.Author.Tests.{ltb-true, lt-ltb, eq-eqb, ne_eqb}
-use Rattle.choice.specs.Choice.{if◌then◌else◌}
+use Rattle.choice.specs.Choice.{when◌then◌else◌}
 use Rattle.octets.specs.Items.{option}
 use Rattle.wire.specs.Options.{DhcpOption, head_item, options_from, first_with, option_data, data_at, Finds}
 use Rattle.wire.specs.Readings.{length_of}
@@ -60,7 +60,7 @@ moved s at r it e f = step_list s at (drop at s) (drop-drop 1 at s) ∙ ap (afte
 
 -- what stands at a place within s, by its octets
 pub item_at : (s : List ℕ) (at : ℕ) → at < length s
-    → head_item (drop at s) ≡ (if eqb (get_or s at 0) 0 then Pad else if eqb (get_or s at 0) 255 then End else if ltb (get_or s (at + 1) 0) (length s - (at + 1)) then Whole (get_or s at 0) (get_or s (at + 1) 0) else End)
+    → head_item (drop at s) ≡ (when eqb (get_or s at 0) 0 then Pad else when eqb (get_or s at 0) 255 then End else when ltb (get_or s (at + 1) 0) (length s - (at + 1)) then Whole (get_or s at 0) (get_or s (at + 1) 0) else End)
 unfolding head_item
 item_at s at h = rw (drop-cons s at 0 h) (simp (get_or-drop, length-drop, add-zero, add-one))
 
@@ -75,8 +75,8 @@ Lies s at End = Unit {0}
 Lies s at (Whole code size) = at + 2 + size ≤ length s
 
 lies_of : (s : List ℕ) (at c n : ℕ) (p q t : Bool) → (t ≡ true → at + 2 + n ≤ length s)
-    → Lies s at (if p then Pad else if q then End else if t then Whole c n else End)
-unfolding if◌then◌else◌
+    → Lies s at (when p then Pad else when q then End else when t then Whole c n else End)
+unfolding when◌then◌else◌
 lies_of s at c n true q t f = tt
 lies_of s at c n false true t f = tt
 lies_of s at c n false false true f = f refl
@@ -93,11 +93,11 @@ from_past s at h = rw (drop_of_length-le s h)
 
 -- the first option with a code is this one, or one of those that follow
 pub first_here : (code c : ℕ) (body : List ℕ) (os : List DhcpOption) → c ≡ code → first_with code (record { code = c; body = body } ∷ os) ≡ some body
-unfolding first_with if◌then◌else◌
+unfolding first_with when◌then◌else◌
 first_here code c body os e = simp (eq-eqb _ _ e)
 
 pub first_later : (code c : ℕ) (body : List ℕ) (os : List DhcpOption) → (c ≡ code → ⊥) → first_with code (record { code = c; body = body } ∷ os) ≡ first_with code os
-unfolding first_with if◌then◌else◌
+unfolding first_with when◌then◌else◌
 first_later code c body os e = simp (ne_eqb _ _ e)
 
 pub first_none : (code : ℕ) → first_with code [] ≡ none
@@ -129,7 +129,7 @@ found_length start size f e = ap length_of (sym (found start size f e).0) ∙ ap
 
 -- ---- a field that begins with an option as a writer leaves it
 head_option : (k : ℕ) (d r : List ℕ) → (k ≡ 0 → ⊥) → (k ≡ 255 → ⊥) → head_item (option k d ++ r) ≡ Whole k (length d)
-unfolding head_item if◌then◌else◌
+unfolding head_item when◌then◌else◌
 head_option k d r h g =
     let e : length d < length (length d ∷ (d ++ r)) = omega (arith, length-append d r) in
     simp (ne_eqb k 0 h, ne_eqb k 255 g, lt-ltb (length d) (length (length d ∷ (d ++ r))) e)

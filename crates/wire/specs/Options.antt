@@ -2,7 +2,7 @@
 -- byte 240. 0 is one byte of padding, 255 ends. An option cut short by the end of the reply ends the walk."
 use Rattle.std.specs.Prelude.{ℕ, zero, suc, ◌+◌, ◌≤◌, List, [], ◌∷◌, ◌≡◌, length, get_or, take, drop, eqb, ltb}
 use Rattle.std.proofs.Math.Option.{Option, none, some}
-use Rattle.choice.specs.Choice.{if◌then◌else◌}
+use Rattle.choice.specs.Choice.{when◌then◌else◌}
 use Rattle.octets.specs.Codes.{pad_code, end_code}
 use Rattle.wire.specs.declared.options.Item.{Item}
 use Rattle.wire.specs.declared.options.Item.TheVariants.{Pad, End, Whole}
@@ -18,9 +18,9 @@ pub record DhcpOption : Type 0 where
 unfoldable pub head_item : List ℕ → Item
 head_item [] = End
 head_item (code ∷ xs) =
-    if eqb code pad_code then Pad
-    else if eqb code end_code then End
-    else if ltb (get_or xs 0 0) (length xs) then Whole code (get_or xs 0 0)
+    when eqb code pad_code then Pad
+    else when eqb code end_code then End
+    else when ltb (get_or xs 0 0) (length xs) then Whole code (get_or xs 0 0)
     else End
 
 -- The options of a field, whose first `rest` octets belong to an option begun before.
@@ -45,7 +45,7 @@ options_of reply = options_from 0 (drop header_length reply)
 -- The data of the first option with a code.
 unfoldable pub first_with : ℕ → List DhcpOption → Option (List ℕ)
 first_with code [] = none
-first_with code (o ∷ os) = if eqb o.code code then some o.body else first_with code os
+first_with code (o ∷ os) = when eqb o.code code then some o.body else first_with code os
 
 -- The data of an option of a reply, by its code: all reading goes through this name. Of two options with one code the
 -- first counts: the Rust decides.

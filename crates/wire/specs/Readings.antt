@@ -1,7 +1,7 @@
 -- What is read of a reply: its header (RFC 2131, figure 1) and its options, by their codes.
 use Rattle.std.specs.Prelude.{ℕ, Bool, List, [], ◌∷◌, ◌++◌, length, get_or, take, drop, eqb, ltb}
 use Rattle.std.proofs.Math.Option.{Option, none, some}
-use Rattle.choice.specs.Choice.{if◌then◌else◌}
+use Rattle.choice.specs.Choice.{when◌then◌else◌}
 use Rattle.octets.specs.Words.{word32, word32_at}
 use Rattle.octets.specs.Addresses.{unicast}
 use Rattle.octets.specs.Runs.{same_bytes}
@@ -20,8 +20,8 @@ use Rattle.wire.specs.declared.reply.Checked.TheVariants.{Passes, PassedOver}
 -- hardware type not 1, hardware length not 6, or no magic cookie.
 unfoldable pub header_check : List ℕ → Checked
 header_check reply =
-    if ltb (length reply) header_length then PassedOver 20
-    else if same_bytes (take 3 reply) (2 ∷ 1 ∷ 6 ∷ []) then (if same_bytes (take 4 (drop 236 reply)) cookie then Passes else PassedOver 21)
+    when ltb (length reply) header_length then PassedOver 20
+    else when same_bytes (take 3 reply) (2 ∷ 1 ∷ 6 ∷ []) then (when same_bytes (take 4 (drop 236 reply)) cookie then Passes else PassedOver 21)
     else PassedOver 21
 
 -- Whether the reply's client hardware address is this one.
@@ -43,12 +43,12 @@ length_of (some body) = Octets (length body)
 -- The octet at an index of an option's data.
 abbrev pub octet_of : ℕ → Option (List ℕ) → MaybeNumber
 octet_of index none = None
-octet_of index (some body) = if ltb index (length body) then Some (get_or body index 0) else None
+octet_of index (some body) = when ltb index (length body) then Some (get_or body index 0) else None
 
 -- A message type: exactly one octet, of any value.
 abbrev pub type_of : Option (List ℕ) → MaybeNumber
 type_of none = None
-type_of (some body) = if eqb (length body) 1 then Some (get_or body 0 0) else None
+type_of (some body) = when eqb (length body) 1 then Some (get_or body 0 0) else None
 
 -- An address: the first four octets of the data, which may be longer.
 abbrev pub address_of : Option (List ℕ) → MaybeNumber
@@ -58,12 +58,12 @@ address_of (some body) = word32_at body 0
 -- A time in seconds: exactly four octets.
 abbrev pub seconds_of : Option (List ℕ) → MaybeNumber
 seconds_of none = None
-seconds_of (some body) = if eqb (length body) 4 then word32_at body 0 else None
+seconds_of (some body) = when eqb (length body) 4 then word32_at body 0 else None
 
 -- An address, if it is unicast.
 abbrev pub if_unicast : MaybeNumber → MaybeNumber
 if_unicast None = None
-if_unicast (Some address) = if unicast address then Some address else None
+if_unicast (Some address) = when unicast address then Some address else None
 
 -- The addresses of a list: each four octets; fewer at the end are none.
 unfoldable pub groups_of : List ℕ → List ℕ
@@ -76,7 +76,7 @@ groups_of (a ∷ b ∷ c ∷ d ∷ xs) = word32 a b c d ∷ groups_of xs
 -- The unicast ones of a list of addresses.
 unfoldable pub unicast_ones : List ℕ → List ℕ
 unicast_ones [] = []
-unicast_ones (a ∷ xs) = if unicast a then a ∷ unicast_ones xs else unicast_ones xs
+unicast_ones (a ∷ xs) = when unicast a then a ∷ unicast_ones xs else unicast_ones xs
 
 -- A list's first three, zeros after them.
 abbrev pub first_three : List ℕ → Addresses

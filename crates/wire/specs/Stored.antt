@@ -1,6 +1,6 @@
 -- The store of options that a lease carries: items of kind, length and data, one after another from its first octet.
 use Rattle.std.specs.Prelude.{ℕ, zero, suc, ◌+◌, Bool, false, List, [], ◌∷◌, ◌++◌, length, take, drop, replicate, eqb, leb}
-use Rattle.choice.specs.Choice.{if◌then◌else◌}
+use Rattle.choice.specs.Choice.{when◌then◌else◌}
 use Rattle.octets.specs.Runs.{over, same_bytes}
 use Rattle.octets.specs.Items.{option, whole_items}
 use Rattle.wire.specs.Options.{DhcpOption, options_of}
@@ -25,7 +25,7 @@ with_option store kind body = record {
 
 -- One that does not fit leaves the store as it was.
 unfoldable pub pushed : Store → ℕ → List ℕ → Store
-pushed store kind body = if leb (store.len + length (option kind body)) 256 then with_option store kind body else store
+pushed store kind body = when leb (store.len + length (option kind body)) 256 then with_option store kind body else store
 
 -- The options of a list, one after another: what does not fit is skipped, and a later, smaller one is still kept.
 unfoldable pub all_pushed : Store → List DhcpOption → Store
@@ -38,7 +38,7 @@ store_of reply = all_pushed empty_store (options_of reply)
 
 -- Whether a store is whole items.
 unfoldable pub whole_store : Store → Bool
-whole_store store = if leb store.len 256 then whole_items (used store) else false
+whole_store store = when leb store.len 256 then whole_items (used store) else false
 
 -- The first item of a kind in a list whose first octet stands at `at`, and whose first `rest` octets are data of an
 -- item begun before: where its data begins, and how long it is.
@@ -46,11 +46,11 @@ unfoldable pub place_from : ℕ → ℕ → ℕ → List ℕ → Got
 place_from kind at rest [] = Absent
 place_from kind at (suc rest) (x ∷ xs) = place_from kind (at + 1) rest xs
 place_from kind at zero (k ∷ []) = Absent
-place_from kind at zero (k ∷ size ∷ xs) = if eqb k kind then At (at + 2) size else place_from kind (at + 2) size xs
+place_from kind at zero (k ∷ size ∷ xs) = when eqb k kind then At (at + 2) size else place_from kind (at + 2) size xs
 
 -- The first option of a kind; 9 where the store is not whole.
 unfoldable pub got : Store → ℕ → Got
-got store kind = if whole_store store then place_from kind 0 0 (used store) else Refused 9
+got store kind = when whole_store store then place_from kind 0 0 (used store) else Refused 9
 
 -- Whether two stores hold the same options: equality of the octets in use.
 abbrev pub same_options : Store → Store → Bool

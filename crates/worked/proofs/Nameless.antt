@@ -6,7 +6,7 @@ use mathlib.Core.Bool.{false}
 use mathlib.Core.List.{List, [], ◌∷◌}
 use native.Mathlib.Omega.{arith}
 use lib.ListN.{length, get_or}
-use Rattle.choice.specs.Choice.{if◌then◌else◌}
+use Rattle.choice.specs.Choice.{when◌then◌else◌}
 use Rattle.octets.specs.Words.{word16}
 use Rattle.octets.specs.Codes.{mask_code, router_code, dns_code}
 use Rattle.machine.specs.declared.decide.Sending.TheVariants.{Discover, Request}
@@ -25,7 +25,7 @@ module _ (s : Settings) (hardware : length s.hardware ≡ 6) (unnamed : s.name_l
   no_name = rw unnamed
 
   default_list : list_of s ≡ mask_code ∷ router_code ∷ dns_code ∷ []
-  unfolding list_of if◌then◌else◌
+  unfolding list_of when◌then◌else◌
   default_list = rw unlisted
 
   no_extra : extra_of s ≡ []
@@ -33,11 +33,11 @@ module _ (s : Settings) (hardware : length s.hardware ≡ 6) (unnamed : s.name_l
 
   module _ (lease : DhcpLease) (id : ℕ) where
     pub discover_length : (d : DiscoverState) → length (body_of s lease id (Discover d)) ≡ 262
-    unfolding name_option address_option size_option option_if if◌then◌else◌
+    unfolding name_option address_option size_option option_if when◌then◌else◌
     discover_length d = rw (no_name, default_list, no_extra) (message_length_lem (fields_of s lease id (Discover d)) [] (mask_code ∷ router_code ∷ dns_code ∷ []) [] hardware ∙ omega arith)
 
     pub request_length : (r : RequestState) → length (body_of s lease id (Request r)) ≡ 274
-    unfolding name_option address_option size_option option_if if◌then◌else◌
+    unfolding name_option address_option size_option option_if when◌then◌else◌
     request_length r = rw (no_name, default_list, no_extra) (message_length_lem (fields_of s lease id (Request r)) [] (mask_code ∷ router_code ∷ dns_code ∷ []) [] hardware ∙ omega arith)
 
     pub discover_udp_length : (d : DiscoverState) → word16 (get_or (datagram_for s lease id (Discover d)) 4 0) (get_or (datagram_for s lease id (Discover d)) 5 0) ≡ 270

@@ -7,7 +7,7 @@ use mathlib.Core.Option.{some}
 use native.Mathlib.Omega.{arith}
 use lib.ListN.{length, length-append}
 use lib.Seq.{drop_at}
-use Rattle.choice.specs.Choice.{if◌then◌else◌}
+use Rattle.choice.specs.Choice.{when◌then◌else◌}
 use borrow.Author.Tests.{le-leb}
 use Rattle.octets.specs.Words.{word32_at, bytes16, bytes32}
 use Rattle.octets.specs.Items.{option}
@@ -42,7 +42,7 @@ sized None r = refl
 sized (Some n) r = one message_size_code (bytes16 n) r (omega arith) (omega arith)
 
 listed : (asks : Bool) (list r : List ℕ) → options_from 0 (option_if asks request_list_code list ++ r) ≡ listItem asks list ++ options_from 0 r
-unfolding option_if if◌then◌else◌
+unfolding option_if when◌then◌else◌
 listed true list r = one request_list_code list r (omega arith) (omega arith)
 listed false list r = refl
 
@@ -89,16 +89,16 @@ module _ (m : Message) (name list extra : List ℕ) where
 
   -- So the first of each code is the one it was given: the message type, and the client identifier.
   pub type_read : length m.hardware ≡ 6 → message_type (message m name list extra) ≡ Some m.kind
-  unfolding first_with if◌then◌else◌
+  unfolding first_with when◌then◌else◌
   type_read six = ap (λ (os : List DhcpOption). type_of (first_with message_type_code os)) (round_trip six)
 
   pub client_read : length m.hardware ≡ 6 → option_data client_id_code (message m name list extra) ≡ some (1 ∷ m.hardware)
-  unfolding first_with if◌then◌else◌
+  unfolding first_with when◌then◌else◌
   client_read six = ap (first_with client_id_code) (round_trip six)
 
   -- The header's id is read as it was given.
   pub id_read : m.id < 4294967296 → transaction_id (message m name list extra) ≡ Some m.id
-  unfolding message word32_at if◌then◌else◌
+  unfolding message word32_at when◌then◌else◌
   id_read h =
       let room : 4 + 4 ≤ length (message m name list extra) = omega arith in
       simp (le-leb _ _ room) (ap Some (joined32 m.id h))

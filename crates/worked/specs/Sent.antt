@@ -2,7 +2,7 @@
 use Rattle.std.specs.Prelude.{ℕ, ◌≡◌, refl, false, List, [], ◌∷◌, map, length, get_or, replicate}
 use Rattle.clock.specs.Durations.{duration}
 use Rattle.clock.specs.Moments.{moment}
-use Rattle.choice.specs.Choice.{if◌then◌else◌}
+use Rattle.choice.specs.Choice.{when◌then◌else◌}
 use Rattle.octets.specs.Words.{word16, word32}
 use Rattle.octets.specs.Items.{whole_from}
 use Rattle.octets.specs.declared.number.MaybeNumber.TheVariants.{None}
@@ -64,9 +64,9 @@ sent =
     ∷ []
 
 pub all_sent : map (λ c. c.given) sent ≡ map (λ c. c.stated) sent
-unfolding sent if◌then◌else◌ list_of datagram_for datagram message option_if address_option size_option name_option
+unfolding sent when◌then◌else◌ list_of datagram_for datagram message option_if address_option size_option name_option
 all_sent = refl
 
 pub post_taken : refusal_of post ≡ None
-unfolding refusal_of lists_refusal size_refusal over_cap list_of list_fits whole_from if◌then◌else◌ message option_if address_option size_option name_option
+unfolding refusal_of lists_refusal size_refusal over_cap list_of list_fits whole_from when◌then◌else◌ message option_if address_option size_option name_option
 post_taken = refl

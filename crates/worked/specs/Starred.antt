@@ -3,7 +3,7 @@ use Rattle.std.specs.Prelude.{ℕ, ◌≡◌, refl, true, List, [], ◌∷◌, m
 use Rattle.clock.specs.Durations.{duration}
 use Rattle.clock.specs.Moments.{plus, moment, before, due, rest, earlier}
 use Rattle.clock.specs.Waits.{standard_waits}
-use Rattle.choice.specs.Choice.{if◌then◌else◌}
+use Rattle.choice.specs.Choice.{when◌then◌else◌}
 use Rattle.clock.specs.Generator.{generator, drawn32, next_state, output_of}
 use Rattle.octets.specs.Words.{word16, word32}
 use Rattle.octets.specs.Addresses.{prefix_len, length_up_to}
@@ -96,5 +96,5 @@ cases =
     ∷ []
 
 pub all_hold : map (λ c. c.given) cases ≡ map (λ c. c.stated) cases
-unfolding cases drawn32 next_state output_of length_up_to lease_time times_of standard_waits decided decided_renewing next_retry rebinds before due rest earlier if◌then◌else◌ message option_if address_option size_option name_option
+unfolding cases drawn32 next_state output_of length_up_to lease_time times_of standard_waits decided decided_renewing next_retry rebinds before due rest earlier when◌then◌else◌ message option_if address_option size_option name_option
 all_hold = refl

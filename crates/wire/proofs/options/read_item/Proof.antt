@@ -1,5 +1,5 @@
 use Rattle.wire.proofs.Walks.{item_at, item_past}
-use Rattle.choice.specs.Choice.{if◌then◌else◌}
+use Rattle.choice.specs.Choice.{when◌then◌else◌}
 use borrow.Author.Tests.{le-ltb, lt-ltb, eq-eqb, ne_eqb}
 use lib.ListN.{length, get_or}
 use Prim.Native.Nat.{◌+◌, ◌-◌, ◌≤◌, ◌<◌}
@@ -15,11 +15,11 @@ shared-slice-read-code : tie.Need-shared-slice-read-code
 shared-slice-read-code c = search rules
 
 returns-2 : tie.Need-returns-2
-unfolding if◌then◌else◌
+unfolding when◌then◌else◌
 returns-2 c = simp (item_at c.before.before.before.args.s.now c.before.before.before.args.at c.before.before.if1.false, eq-eqb _ _ c.if2.true)
 
 returns-3 : tie.Need-returns-3
-unfolding if◌then◌else◌
+unfolding when◌then◌else◌
 returns-3 c = simp (item_at c.before.before.before.before.args.s.now c.before.before.before.before.args.at c.before.before.before.if1.false, ne_eqb _ _ c.before.if2.false, eq-eqb _ _ c.if3.true)
 
 sub-rest : tie.Need-overflow-sub-rest
@@ -29,7 +29,7 @@ sub-rest-2 : tie.Need-overflow-sub-rest-2
 sub-rest-2 c = search rules
 
 returns-4 : tie.Need-returns-4
-unfolding if◌then◌else◌
+unfolding when◌then◌else◌
 returns-4 c =
     let h : length c.before.before.before.before.before.args.s.now - (c.before.before.before.before.before.args.at + 1) ≤ get_or c.before.before.before.before.before.args.s.now (c.before.before.before.before.before.args.at + 1) 0 = omega arith in
     simp (item_at c.before.before.before.before.before.args.s.now c.before.before.before.before.before.args.at c.before.before.before.before.if1.false, ne_eqb _ _ c.before.before.if2.false, ne_eqb _ _ c.before.if3.false, le-ltb _ _ h)
@@ -44,13 +44,13 @@ cast-len : tie.Need-overflow-cast-len
 cast-len c = omega (arith, c.shared-slice-known2.given (c.before.before.before.before.before.before.args.at + 1))
 
 returns-5 : tie.Need-returns-5
-unfolding if◌then◌else◌
+unfolding when◌then◌else◌
 returns-5 c =
     let h : get_or c.before.before.before.before.before.before.before.args.s.now (c.before.before.before.before.before.before.before.args.at + 1) 0 < length c.before.before.before.before.before.before.before.args.s.now - (c.before.before.before.before.before.before.before.args.at + 1) = omega arith in
     simp (item_at c.before.before.before.before.before.before.before.args.s.now c.before.before.before.before.before.before.before.args.at c.before.before.before.before.before.before.if1.false, ne_eqb _ _ c.before.before.before.before.if2.false, ne_eqb _ _ c.before.before.before.if3.false, lt-ltb _ _ h)
 
 returns-6 : tie.Need-returns-6
-unfolding if◌then◌else◌
+unfolding when◌then◌else◌
 returns-6 c =
     let h : length c.before.before.before.before.before.before.before.args.s.now - (c.before.before.before.before.before.before.before.args.at + 1) ≤ get_or c.before.before.before.before.before.before.before.args.s.now (c.before.before.before.before.before.before.before.args.at + 1) 0 = omega arith in
     simp (item_at c.before.before.before.before.before.before.before.args.s.now c.before.before.before.before.before.before.before.args.at c.before.before.before.before.before.before.if1.false, ne_eqb _ _ c.before.before.before.before.if2.false, ne_eqb _ _ c.before.before.before.if3.false, le-ltb _ _ h)
