@@ -5,6 +5,7 @@ use crate::sum::Sum;
 use client::Client;
 use clock::{Duration, Instant};
 use octets::span::put_bytes_at;
+use std::io;
 use tables::{Changed, Tables};
 
 // A turn's moment, so many milliseconds after the last call of its stage and up to 7 more.
@@ -34,7 +35,7 @@ fn left(sum: Sum, client: Client, tables: Tables) -> Sum {
 }
 
 // No call: what a turn costs by itself.
-pub fn none(post: Post, turns: u64) {
+pub fn none(rt: &impl Print, post: Post, turns: u64) -> io::Result<()> {
     let mut sum = Sum::new();
     let mut turn = 0;
     while turn < turns {
@@ -42,7 +43,7 @@ pub fn none(post: Post, turns: u64) {
         sum = left(sum, post.client, post.tables).with(moment.millis);
         turn += 1;
     }
-    sum.print();
+    sum.print(rt)
 }
 
 // What the lent buffer holds at first, and how long it can be.
@@ -50,14 +51,15 @@ const LENT: u8 = 0xa5;
 
 const ROOM: usize = 600;
 
-pub fn polls_in(post: Post, step: u32, room: usize, turns: u64) {
+pub fn polls_in(rt: &impl Print, post: Post, step: u32, room: usize, turns: u64) -> io::Result<()> {
     let mut buf = [LENT; ROOM];
     if room <= ROOM {
-        polls(post, step, &mut buf[..room], turns);
+        polls(rt, post, step, &mut buf[..room], turns)?;
     }
+    Ok(())
 }
 
-fn polls(post: Post, step: u32, buf: &mut [u8], turns: u64) {
+fn polls(rt: &impl Print, post: Post, step: u32, buf: &mut [u8], turns: u64) -> io::Result<()> {
     let mut rand = post.rand;
     let mut sum = Sum::new();
     let mut turn = 0;
@@ -71,17 +73,24 @@ fn polls(post: Post, step: u32, buf: &mut [u8], turns: u64) {
             .polled(outcome)
             .written(buf);
     }
-    sum.print();
+    sum.print(rt)
 }
 
-pub fn replies_in(post: Post, made: [u8; MOST], length: usize, turns: u64) {
+pub fn replies_in(
+    rt: &impl Print,
+    post: Post,
+    made: [u8; MOST],
+    length: usize,
+    turns: u64,
+) -> io::Result<()> {
     let mut reply = made;
     if length <= MOST {
-        replies(post, &mut reply[..length], turns);
+        replies(rt, post, &mut reply[..length], turns)?;
     }
+    Ok(())
 }
 
-fn replies(post: Post, reply: &mut [u8], turns: u64) {
+fn replies(rt: &impl Print, post: Post, reply: &mut [u8], turns: u64) -> io::Result<()> {
     let mut sum = Sum::new();
     let mut turn = 0;
     while turn < turns {
@@ -92,10 +101,10 @@ fn replies(post: Post, reply: &mut [u8], turns: u64) {
         let outcome = processed.outcome;
         sum = left(sum, processed.client, processed.tables).replied(outcome);
     }
-    sum.print();
+    sum.print(rt)
 }
 
-pub fn creations(turns: u64) {
+pub fn creations(rt: &impl Print, turns: u64) -> io::Result<()> {
     let mut settings = settings();
     let tables = Tables::new();
     let mut sum = Sum::new();
@@ -107,10 +116,10 @@ pub fn creations(turns: u64) {
         sum = left(sum, created.client, tables).done(outcome);
         turn += 1;
     }
-    sum.print();
+    sum.print(rt)
 }
 
-pub fn resets(post: Post, turns: u64) {
+pub fn resets(rt: &impl Print, post: Post, turns: u64) -> io::Result<()> {
     let mut sum = Sum::new();
     let mut turn = 0;
     while turn < turns {
@@ -119,11 +128,11 @@ pub fn resets(post: Post, turns: u64) {
         sum = left(sum, was.client, was.tables).was_reset(outcome);
         turn += 1;
     }
-    sum.print();
+    sum.print(rt)
 }
 
 // Manual calls: 3, an address is added; 4, dropped; 5, a route is added; 6, dropped.
-pub fn changes(post: Post, kind: u64, turns: u64) {
+pub fn changes(rt: &impl Print, post: Post, kind: u64, turns: u64) -> io::Result<()> {
     let mut sum = Sum::new();
     let mut turn = 0;
     while turn < turns {
@@ -132,7 +141,7 @@ pub fn changes(post: Post, kind: u64, turns: u64) {
         sum = left(sum, post.client, changed.tables).done(outcome);
         turn += 1;
     }
-    sum.print();
+    sum.print(rt)
 }
 
 fn change(tables: Tables, kind: u64, address: u32) -> Changed {

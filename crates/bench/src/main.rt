@@ -7,14 +7,23 @@
 
 #![tactic(auto)]
 
+use std::io;
+use std::io::Read;
+
 mod calls;
 mod cases;
 mod made;
 mod reply;
 mod sum;
 
-fn main() {
-    let mut text = io::large_buffer();
-    let n = io::read_full(libc::STDIN_FILENO, &mut text);
-    cases::run(octets::span::up_to(&text, n));
+fn main(rt: HostRuntime) -> io::Result<()> {
+    let text = input(&rt)?;
+    cases::run(&rt, text.as_slice())
+}
+
+// The input, as far as its first 65,536 octets.
+fn input(rt: &(impl Input + AllocGlobal)) -> io::Result<Vec<u8>> {
+    let mut text = Vec::new(rt.alloc());
+    rt.reader().take(65536).read_to_end(&mut text)?;
+    Ok(text)
 }

@@ -1,9 +1,9 @@
 // The digest of a case: two running sums over what its calls answer and leave.
 use client::{PollAnswer, PollOutcome, ReplyOutcome, ResetOutcome};
-use libc::STDOUT_FILENO;
 use machine::ClientState;
 use octets::MaybeNumber;
 use octets::word::read_u16;
+use std::io;
 use std::num::wrapping_add_u32;
 use tables::Outcome;
 
@@ -99,13 +99,12 @@ impl Sum {
         self.with(number)
     }
 
-    pub fn print(self) {
-        io::write_all(STDOUT_FILENO, b"  number ");
-        io::print_decimal(STDOUT_FILENO, self.number as u64);
-        io::write_all(STDOUT_FILENO, b", digest ");
-        io::print_hex(STDOUT_FILENO, self.a as u64, 8);
-        io::print_hex(STDOUT_FILENO, self.b as u64, 8);
-        io::write_all(STDOUT_FILENO, b"\n");
+    pub fn print(self, rt: &impl Print) -> io::Result<()> {
+        rt.write_all(b"  number ")?;
+        rt.print(self.number as u64)?;
+        rt.write_all(b", digest ")?;
+        print!(rt; "{:08x}{:08x}", self.a, self.b)?;
+        rt.write_all(b"\n")
     }
 }
 

@@ -4,7 +4,7 @@ use Rattle.std.proofs.Common.{◌≡◌, ℕ, Bool, true, false, not, ◌||◌, 
 use borrow.Author.Tests.{not-false}
 use Rattle.choice.proofs.Choices.{if_cases, both_true}
 use Rattle.octets.specs.Addresses.{unicast}
-use Rattle.tables.specs.Entries.{only, all, full}
+use Rattle.tables.specs.Entries.{only, full}
 use Rattle.tables.specs.Tables.{addrs_of, routes_of, addr_is_dhcp, addr_is_manual, route_is_dhcp, route_is_manual, addr_fits, route_fits, dhcp_addrs, other_addrs, dhcp_routes, other_routes, prefix_fits, whole_tables}
 use Rattle.tables.specs.Manual.{refused, changed_addrs, changed_routes, manual_addr, manual_route, addr_matches, route_matches, addr_stays, route_stays, admitted, add_address, drop_address, add_route, drop_route}
 use Rattle.tables.specs.declared.address.IfaceAddr.{IfaceAddr}

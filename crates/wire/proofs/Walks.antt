@@ -1,7 +1,7 @@
 -- Laws of the walk over the options of a reply. Assumes nothing.
 use Prim.Native.Nat.{ℕ, zero, suc, ◌+◌, ◌-◌, ◌≤◌, ◌<◌}
 use mathlib.Core.Bool.{Bool, true, false}
-use mathlib.Core.Path.{◌≡◌, refl, sym, ap, subst, ◌∙◌}
+use mathlib.Core.Path.{◌≡◌, refl, sym, ap, ◌∙◌}
 use mathlib.Core.List.{List, [], ◌∷◌, ◌++◌}
 use mathlib.Core.Option.{none, some}
 use native.Mathlib.Omega.{arith}
@@ -13,12 +13,15 @@ use lib.Dec.{eqb, ltb}
 use borrow.Author.Tests.{ltb-true, lt-ltb, eq-eqb, ne_eqb}
 use Rattle.choice.specs.Choice.{when◌then◌else◌}
 use Rattle.octets.specs.Items.{option}
-use Rattle.wire.specs.Options.{DhcpOption, head_item, options_from, first_with, option_data, data_at, Finds}
-use Rattle.wire.specs.Readings.{length_of}
+use Rattle.wire.specs.Options.{DhcpOption, head_item, options_from, first_with, option_data, Finds}
+use Rattle.wire.specs.Readings.{length_of, seconds_of}
+use Rattle.choice.proofs.Choices.{if_true, if_false}
+use Rattle.octets.specs.Words.{word32_at}
+use Rattle.octets.specs.declared.number.MaybeNumber.{MaybeNumber}
+use Rattle.octets.specs.declared.number.MaybeNumber.TheVariants.{None}
 use Rattle.wire.specs.declared.reply.Length.TheVariants.{Octets}
 use Rattle.wire.specs.declared.options.Item.{Item}
 use Rattle.wire.specs.declared.options.Item.TheVariants.{Pad, End, Whole}
-use Rattle.wire.specs.declared.options.Found.{Found}
 use Rattle.wire.specs.declared.options.Found.TheVariants.{Nothing, At}
 
 -- octets of the option before are passed over
@@ -55,8 +58,8 @@ step_list s at [] t = refl
 step_list s at (x ∷ xs) t = by_item s at xs t (head_item (x ∷ xs))
 
 -- what the walk does once an item was read
-pub moved : (s : List ℕ) (at : ℕ) (r it : Item) → r ≡ head_item (drop at s) → r ≡ it → from s at ≡ after s at it
-moved s at r it e f = step_list s at (drop at s) (drop-drop 1 at s) ∙ ap (after s at) (sym e ∙ f)
+pub moved : (s : List ℕ) (at : ℕ) (it : Item) → it ≡ head_item (drop at s) → from s at ≡ after s at it
+moved s at it e = step_list s at (drop at s) (drop-drop 1 at s) ∙ ap (after s at) (sym e)
 
 -- what stands at a place within s, by its octets
 pub item_at : (s : List ℕ) (at : ℕ) → at < length s
@@ -82,8 +85,8 @@ lies_of s at c n false true t f = tt
 lies_of s at c n false false true f = f refl
 lies_of s at c n false false false f = tt
 
-pub lies : (s : List ℕ) (at : ℕ) (r it : Item) → r ≡ head_item (drop at s) → r ≡ it → at < length s → Lies s at it
-lies s at r it e f h = rw (sym f ∙ e ∙ item_at s at h)
+pub lies : (s : List ℕ) (at : ℕ) (it : Item) → it ≡ head_item (drop at s) → at < length s → Lies s at it
+lies s at it e h = rw (e ∙ item_at s at h)
     (lies_of s at (get_or s at 0) (get_or s (at + 1) 0) (eqb (get_or s at 0) 0) (eqb (get_or s at 0) 255) (ltb (get_or s (at + 1) 0) (length s - (at + 1))) (λ t. omega (arith, ltb-true)))
 
 -- at the end there is nothing
@@ -105,27 +108,35 @@ unfolding first_with
 first_none code = refl
 
 -- the data of an option that was found, as `&reply[start..end]` lends it
-pub found : {reply : List ℕ} {code : ℕ} {r : Found} (start size : ℕ) → Finds reply code r → r ≡ At start size
+pub found : {reply : List ℕ} {code : ℕ} (start size : ℕ) → Finds reply code (At start size)
     → (some (take (start + size - start) (drop start reply)) ≡ option_data code reply) × (start + size ≤ length reply)
-found {reply} {code} {r} start size f e =
-    let g : Finds reply code (At start size) = subst (λ (q : Found). Finds reply code q) e f in
+found start size f =
     let n : start + size - start ≡ size = omega arith in
-    (rw n g.holds, g.inside)
+    (rw n f.holds, f.inside)
 
-pub found_none : {reply : List ℕ} {code : ℕ} {r : Found} → Finds reply code r → r ≡ Nothing → none ≡ option_data code reply
-found_none {reply} {code} {r} f e = ap (data_at reply) (sym e) ∙ f.holds
+pub found_none : {reply : List ℕ} {code : ℕ} → Finds reply code Nothing → none ≡ option_data code reply
+found_none f = f.holds
 
 -- its length
-pub found_size : {reply : List ℕ} {code : ℕ} {r : Found} (start size : ℕ) → Finds reply code r → r ≡ At start size
+pub found_size : {reply : List ℕ} {code : ℕ} (start size : ℕ) → Finds reply code (At start size)
     → length (take (start + size - start) (drop start reply)) ≡ size
-found_size {reply} start size f e =
-    let g = found start size f e in
+found_size start size f =
+    let g = found start size f in
     let n : start + size - start ≡ size = omega arith in
     simp (n, length-take, length-drop) (omega arith)
 
-pub found_length : {reply : List ℕ} {code : ℕ} {r : Found} (start size : ℕ) → Finds reply code r → r ≡ At start size
+pub found_length : {reply : List ℕ} {code : ℕ} (start size : ℕ) → Finds reply code (At start size)
     → length_of (option_data code reply) ≡ Octets size
-found_length start size f e = ap length_of (sym (found start size f e).0) ∙ ap Octets (found_size start size f e)
+found_length start size f = ap length_of (sym (found start size f).0) ∙ ap Octets (found_size start size f)
+
+-- its seconds, by its length
+pub seconds_none : {reply : List ℕ} {code : ℕ} (start size : ℕ) → Finds reply code (At start size) → (size ≡ 4 → ⊥)
+    → None ≡ seconds_of (option_data code reply)
+seconds_none start size f h = if_false _ (ne_eqb _ _ (λ q. h (sym (found_size start size f) ∙ q))) refl ∙ ap seconds_of (found start size f).0
+
+pub seconds_some : {reply : List ℕ} {code : ℕ} (start size : ℕ) {r : MaybeNumber} → Finds reply code (At start size) → size ≡ 4
+    → r ≡ word32_at (take (start + size - start) (drop start reply)) 0 → r ≡ seconds_of (option_data code reply)
+seconds_some start size f h e = if_true _ (eq-eqb _ _ (found_size start size f ∙ h)) e ∙ ap seconds_of (found start size f).0
 
 -- ---- a field that begins with an option as a writer leaves it
 head_option : (k : ℕ) (d r : List ℕ) → (k ≡ 0 → ⊥) → (k ≡ 255 → ⊥) → head_item (option k d ++ r) ≡ Whole k (length d)

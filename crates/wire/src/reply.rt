@@ -151,6 +151,7 @@ pub fn option_address(reply: &[u8], code: u8) -> MaybeNumber
 }
 
 // An option's seconds: exactly four octets.
+#[tactic(auto, using(crate::proofs::Walks::seconds_none, crate::proofs::Walks::seconds_some))]
 pub fn option_seconds(reply: &[u8], code: u8) -> MaybeNumber
     ensures { result ≡ seconds_of (option_data code reply.now) }
 {

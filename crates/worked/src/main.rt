@@ -3,63 +3,63 @@
 
 #![tactic(auto)]
 
-use libc::STDOUT_FILENO;
 use octets::MaybeNumber;
+use std::io;
 
 mod reading;
 mod time;
 mod writing;
 
-fn main() {
-    io::write_all(STDOUT_FILENO, b"src/time.rs\n");
-    time::examples();
-    io::write_all(STDOUT_FILENO, b"addresses, replies, the store\n");
-    reading::examples();
-    io::write_all(STDOUT_FILENO, b"messages\n");
-    writing::examples();
+fn main(rt: HostRuntime) -> io::Result<()> {
+    rt.write_all(b"src/time.rs\n")?;
+    time::examples(&rt)?;
+    rt.write_all(b"addresses, replies, the store\n")?;
+    reading::examples(&rt)?;
+    rt.write_all(b"messages\n")?;
+    writing::examples(&rt)
 }
 
 // A line: what was asked, and the number that came.
-fn line(asked: &[u8], number: u64) {
-    io::write_all(STDOUT_FILENO, asked);
-    io::write_all(STDOUT_FILENO, b": ");
-    io::print_decimal(STDOUT_FILENO, number);
-    io::write_all(STDOUT_FILENO, b"\n");
+fn line(rt: &impl Print, asked: &[u8], number: u64) -> io::Result<()> {
+    rt.write_all(asked)?;
+    rt.write_all(b": ")?;
+    rt.print(number)?;
+    rt.write_all(b"\n")
 }
 
 // A line: what was asked, and yes or no.
-fn test(asked: &[u8], holds: bool) {
-    io::write_all(STDOUT_FILENO, asked);
+fn test(rt: &impl Print, asked: &[u8], holds: bool) -> io::Result<()> {
+    rt.write_all(asked)?;
     if holds {
-        io::write_all(STDOUT_FILENO, b": yes\n");
+        rt.write_all(b": yes\n")
     } else {
-        io::write_all(STDOUT_FILENO, b": no\n");
+        rt.write_all(b": no\n")
     }
 }
 
 // A line: what was asked, and that there is none.
-fn none(asked: &[u8]) {
-    io::write_all(STDOUT_FILENO, asked);
-    io::write_all(STDOUT_FILENO, b": none\n");
+fn none(rt: &impl Print, asked: &[u8]) -> io::Result<()> {
+    rt.write_all(asked)?;
+    rt.write_all(b": none\n")
 }
 
 // A line: what was asked, and the number or that there is none.
-fn number(asked: &[u8], number: MaybeNumber) {
+fn number(rt: &impl Print, asked: &[u8], number: MaybeNumber) -> io::Result<()> {
     match number {
-        MaybeNumber::None => none(asked),
-        MaybeNumber::Some(n) => line(asked, n as u64),
+        MaybeNumber::None => none(rt, asked),
+        MaybeNumber::Some(n) => line(rt, asked, n as u64),
     }
 }
 
 // A line: what was asked, and by which number it was refused.
-fn refused(asked: &[u8], number: u32) {
-    io::write_all(STDOUT_FILENO, asked);
-    io::write_all(STDOUT_FILENO, b": refused by ");
-    io::print_decimal(STDOUT_FILENO, number as u64);
-    io::write_all(STDOUT_FILENO, b"\n");
+fn refused(rt: &impl Print, asked: &[u8], number: u32) -> io::Result<()> {
+    rt.write_all(asked)?;
+    rt.write_all(b": refused by ")?;
+    rt.print(number as u64)?;
+    rt.write_all(b"\n")
 }
 
 // A line: what was asked, and the octet that came.
-fn octet(asked: &[u8], octet: u8) {
-    line(asked, octet as u64);
+fn octet(rt: &impl Print, asked: &[u8], octet: u8) -> io::Result<()> {
+    line(rt, asked, octet as u64)
 }

@@ -4,53 +4,62 @@ use clock::Rand;
 use message::{Answer, Endpoints, Message, message_len, write_message};
 use octets::MaybeNumber;
 use octets::span::up_to;
+use std::io;
 
-pub fn examples() {
-    words();
-    sums();
-    longest();
-    refusals();
-    full_sum();
-    rest_kept();
+pub fn examples(rt: &impl Print) -> io::Result<()> {
+    words(rt)?;
+    sums(rt)?;
+    longest(rt)?;
+    refusals(rt)?;
+    full_sum(rt)?;
+    rest_kept(rt)
 }
 
 // RFC 791, appendix B: the most significant octet first. A word that does not fit is not written.
-fn words() {
+fn words(rt: &impl Print) -> io::Result<()> {
     let mut buf = [0u8; 6];
     octets::word::write_u32(&mut buf, 2, 0x0a000007);
     octets::word::write_u16(&mut buf, 0, 0x10110);
     line(
+        rt,
         b"octets written of a word over the end",
         octets::word::write_u16(&mut buf, 5, 1) as u64,
-    );
+    )?;
     crate::number(
+        rt,
         b"10.0.0.7, written and read",
         octets::word::read_u32(&buf, 2),
-    );
-    crate::number(b"65,808 in 16 bits", octets::word::read_u16(&buf, 0));
-    crate::number(b"a word over the end", octets::word::read_u16(&buf, 5));
+    )?;
+    crate::number(rt, b"65,808 in 16 bits", octets::word::read_u16(&buf, 0))?;
+    crate::number(rt, b"a word over the end", octets::word::read_u16(&buf, 5))
 }
 
 // RFC 1071, section 3: the words 0001, f203, f4f5 and f6f7 sum to ddf2, 56,818, and an odd octet is the high one of a
 // word: 0001, f203, f4f5 and f600 sum to dcfb, 56,571 (1 + 61,955 + 62,709 + 62,976 = 187,641 = 2 * 65,536 + 56,569, and 2
 // carried).
-fn sums() {
+fn sums(rt: &impl Print) -> io::Result<()> {
     let octets = [0x00u8, 0x01, 0xf2, 0x03, 0xf4, 0xf5, 0xf6, 0xf7];
-    line(b"RFC 1071's sum", message::sum::ones_sum(0, &octets) as u64);
     line(
+        rt,
+        b"RFC 1071's sum",
+        message::sum::ones_sum(0, &octets) as u64,
+    )?;
+    line(
+        rt,
         b"of its first 7 octets",
         message::sum::ones_sum(0, up_to(&octets, 7)) as u64,
-    );
+    )?;
     line(
+        rt,
         b"of none",
         message::sum::ones_sum(0, up_to(&octets, 0)) as u64,
-    );
+    )
 }
 
-fn answered(asked: &[u8], answer: Answer) {
+fn answered(rt: &impl Print, asked: &[u8], answer: Answer) -> io::Result<()> {
     match answer {
-        Answer::Length(n) => line(asked, n as u64),
-        Answer::Refused(number) => crate::refused(asked, number),
+        Answer::Length(n) => line(rt, asked, n as u64),
+        Answer::Refused(number) => crate::refused(rt, asked, number),
     }
 }
 
@@ -84,16 +93,18 @@ fn extra() -> [u8; 255] {
 }
 
 // "MTU 576, all lists full (655)": as a datagram 663.
-fn longest() {
+fn longest(rt: &impl Print) -> io::Result<()> {
     let name = [65u8; 63];
     let list = [1u8; 64];
     let items = extra();
     answered(
+        rt,
         b"all lists full",
         message_len(requesting(), &name, &list, &items),
-    );
+    )?;
     let mut buf = [0u8; 663];
     answered(
+        rt,
         b"as a datagram",
         write_message(
             &mut buf,
@@ -104,60 +115,65 @@ fn longest() {
             &list,
             &items,
         ),
-    );
+    )
 }
 
 // Numbers 3, 4, 5 and 8, each at its limit, and in that order.
-fn refusals() {
+fn refusals(rt: &impl Print) -> io::Result<()> {
     let name = [65u8; 64];
     let list = [1u8; 65];
     let items = [0u8; 256];
     answered(
+        rt,
         b"name of 64 octets",
         message_len(requesting(), &name, &list, &items),
-    );
+    )?;
     answered(
+        rt,
         b"request list of 65 codes",
         message_len(requesting(), up_to(&name, 63), &list, &items),
-    );
+    )?;
     answered(
+        rt,
         b"extra options of 256 octets",
         message_len(requesting(), up_to(&name, 63), up_to(&list, 64), &items),
-    );
+    )?;
     answered(
+        rt,
         b"extra options 12, 2, 65",
         message_len(requesting(), &[], &[1, 3, 6], &[12, 2, 65]),
-    );
-    short_buffers();
+    )?;
+    short_buffers(rt)
 }
 
 // A Request of 282 octets.
-fn short_buffers() {
+fn short_buffers(rt: &impl Print) -> io::Result<()> {
     let mut exact = [0u8; 282];
-    into(b"into 282 octets", &mut exact);
+    into(rt, b"into 282 octets", &mut exact)?;
     let mut short = [0u8; 281];
-    into(b"into 281 octets", &mut short);
+    into(rt, b"into 281 octets", &mut short)?;
     let mut hundred = [0u8; 100];
-    into(b"into 100 octets", &mut hundred);
+    into(rt, b"into 100 octets", &mut hundred)?;
     let mut none = [0u8; 0];
-    into(b"into no octets", &mut none);
+    into(rt, b"into no octets", &mut none)
 }
 
-fn into(asked: &[u8], buf: &mut [u8]) {
+fn into(rt: &impl Print, asked: &[u8], buf: &mut [u8]) -> io::Result<()> {
     let list = [1u8, 3, 6];
     answered(
+        rt,
         asked,
         write_message(buf, everyone(), false, requesting(), &[], &list, &[]),
-    );
+    )
 }
 
 // The two octets at 6, as a number.
-fn field(asked: &[u8], buf: &[u8]) {
-    crate::number(asked, octets::word::read_u16(buf, 6));
+fn field(rt: &impl Print, asked: &[u8], buf: &[u8]) -> io::Result<()> {
+    crate::number(rt, asked, octets::word::read_u16(buf, 6))
 }
 
 // A Discover whose checksum computes to 0: hardware address 02:00:00:00:00:01, MTU 1,500, the id drawn by generator 36,490.
-fn full_sum() {
+fn full_sum(rt: &impl Print) -> io::Result<()> {
     let drawn = Rand::new(36490).rand_u32();
     let discover = Message {
         kind: 1,
@@ -171,10 +187,11 @@ fn full_sum() {
     };
     let mut buf = [0u8; 300];
     answered(
+        rt,
         b"a Discover",
         write_message(&mut buf, everyone(), false, discover, &[], &[1, 3, 6], &[]),
-    );
-    field(b"its checksum, which computes to 0", &buf);
+    )?;
+    field(rt, b"its checksum, which computes to 0", &buf)?;
     let mut by_device = [7u8; 300];
     write_message(
         &mut by_device,
@@ -185,11 +202,11 @@ fn full_sum() {
         &[1, 3, 6],
         &[],
     );
-    field(b"where the device does it", &by_device);
+    field(rt, b"where the device does it", &by_device)
 }
 
 // "Bytes after the datagram keep their value"
-fn rest_kept() {
+fn rest_kept(rt: &impl Print) -> io::Result<()> {
     let mut buf = [165u8; 300];
     write_message(
         &mut buf,
@@ -200,7 +217,7 @@ fn rest_kept() {
         &[1, 3, 6],
         &[],
     );
-    octet(b"the end mark, octet 281", buf[281]);
-    octet(b"octet 282", buf[282]);
-    octet(b"octet 299", buf[299]);
+    octet(rt, b"the end mark, octet 281", buf[281])?;
+    octet(rt, b"octet 282", buf[282])?;
+    octet(rt, b"octet 299", buf[299])
 }

@@ -2,24 +2,25 @@
 use crate::made::{NONE, ack, maskless, told};
 use crate::print::{print, print_lease};
 use octets::span::{put_bytes_at, up_to};
+use std::io;
 
-pub fn examples() {
-    masks();
-    routers();
-    name_servers();
-    walks();
-    stores();
+pub fn examples(rt: &impl Print) -> io::Result<()> {
+    masks(rt)?;
+    routers(rt)?;
+    name_servers(rt)?;
+    walks(rt)?;
+    stores(rt)
 }
 
-fn leased(asked: &[u8], reply: [u8; 600]) {
-    leased_by(asked, &reply);
+fn leased(rt: &impl Print, asked: &[u8], reply: [u8; 600]) -> io::Result<()> {
+    leased_by(rt, asked, &reply)
 }
 
-fn leased_by(asked: &[u8], reply: &[u8]) {
+fn leased_by(rt: &impl Print, asked: &[u8], reply: &[u8]) -> io::Result<()> {
     let client = told(reply, NONE, 0);
-    print(asked);
-    print_lease(client.lease);
-    print(b"\n");
+    print(rt, asked)?;
+    print_lease(rt, client.lease)?;
+    print(rt, b"\n")
 }
 
 // An ACK with options from 255 on, and others at a place.
@@ -30,61 +31,72 @@ pub fn with(first: &[u8], at: usize, others: &[u8]) -> [u8; 600] {
 }
 
 // "0.0.0.0 gives 0, 255.255.255.255 gives 32"; "takes the first 4 bytes of longer data".
-fn masks() {
-    leased(b"mask 0.0.0.0", maskless(&[1, 4, 0, 0, 0, 0]));
+fn masks(rt: &impl Print) -> io::Result<()> {
+    leased(rt, b"mask 0.0.0.0", maskless(&[1, 4, 0, 0, 0, 0]))?;
     leased(
+        rt,
         b"mask 255.255.255.255",
         maskless(&[1, 4, 255, 255, 255, 255]),
-    );
-    leased(b"mask of 5 octets", maskless(&[1, 5, 255, 255, 255, 0, 7]));
+    )?;
+    leased(
+        rt,
+        b"mask of 5 octets",
+        maskless(&[1, 5, 255, 255, 255, 0, 7]),
+    )
 }
 
 // "Router: first address, if unicast."
-fn routers() {
-    leased(b"router 10.0.0.1", ack(&[3, 4, 10, 0, 0, 1]));
+fn routers(rt: &impl Print) -> io::Result<()> {
+    leased(rt, b"router 10.0.0.1", ack(&[3, 4, 10, 0, 0, 1]))?;
     leased(
+        rt,
         b"routers 0.0.0.0, 10.0.0.1",
         ack(&[3, 8, 0, 0, 0, 0, 10, 0, 0, 1]),
-    );
-    leased(b"router of 5 octets", ack(&[3, 5, 10, 0, 0, 4, 9]));
-    leased(b"router of 3 octets", ack(&[3, 3, 10, 0, 0]));
+    )?;
+    leased(rt, b"router of 5 octets", ack(&[3, 5, 10, 0, 0, 4, 9]))?;
+    leased(rt, b"router of 3 octets", ack(&[3, 3, 10, 0, 0]))
 }
 
 // "DNS: groups of 4, unicast only, first 3."
-fn name_servers() {
+fn name_servers(rt: &impl Print) -> io::Result<()> {
     leased(
+        rt,
         b"DNS 0.0.0.0, 1.1.1.1, 224.0.0.1, 2.2.2.2 and 3 octets",
         with(
             &[6, 19, 0, 0, 0, 0, 1, 1, 1, 1, 224, 0, 0, 1],
             269,
             &[2, 2, 2, 2, 9, 9, 9],
         ),
-    );
+    )?;
     leased(
+        rt,
         b"DNS 1.1.1.1, 2.2.2.2, 3.3.3.3, 4.4.4.4",
         ack(&[6, 16, 1, 1, 1, 1, 2, 2, 2, 2, 3, 3, 3, 3, 4, 4, 4, 4]),
-    );
+    )
 }
 
 // Padding and what follows the end mark are not stored, nor is an option that is cut short.
-fn walks() {
+fn walks(rt: &impl Print) -> io::Result<()> {
     leased(
+        rt,
         b"padding, 12, padding, the end mark, 13",
         ack(&[0, 0, 12, 1, 65, 0, 255, 13, 1, 66]),
-    );
+    )?;
     let whole = ack(&[12, 4, 65, 66, 67, 68]);
-    leased_by(b"12 cut short", up_to(&whole, 260));
+    leased_by(rt, b"12 cut short", up_to(&whole, 260))
 }
 
 // "An option that does not fit the store is skipped; a later, smaller one is still kept." 53, 54 and 1 take 15 octets; the data
 // of option 100 begins at 257.
-fn stores() {
+fn stores(rt: &impl Print) -> io::Result<()> {
     leased(
+        rt,
         b"option 100 of 240 octets, then 101",
         with(&[100, 240], 497, &[101, 1, 7]),
-    );
+    )?;
     leased(
+        rt,
         b"option 100 of 239 octets, then 101",
         with(&[100, 239], 496, &[101, 1, 7]),
-    );
+    )
 }

@@ -4,48 +4,48 @@ use crate::made::{NONE, ack, client, requesting, told};
 use crate::print::{numbered, print, print_lease, print_times};
 use client::{Client, Standing};
 use clock::Instant;
-use libc::STDOUT_FILENO;
 use machine::{ClientState, DiscoverState};
+use std::io;
 use tables::Has;
 use wire::Got;
 
-pub fn examples() {
-    long_option();
-    full_store();
-    looked_up();
+pub fn examples(rt: &impl Print) -> io::Result<()> {
+    long_option(rt)?;
+    full_store(rt)?;
+    looked_up(rt)
 }
 
-fn got(asked: &[u8], found: Got) {
-    print(asked);
+fn got(rt: &impl Print, asked: &[u8], found: Got) -> io::Result<()> {
+    print(rt, asked)?;
     match found {
-        Got::Absent => print(b": none"),
+        Got::Absent => print(rt, b": none")?,
         Got::At { place, len } => {
-            print(b": at ");
-            io::print_decimal(STDOUT_FILENO, place as u64);
-            print(b", length ");
-            io::print_decimal(STDOUT_FILENO, len as u64);
+            print(rt, b": at ")?;
+            rt.print(place as u64)?;
+            print(rt, b", length ")?;
+            rt.print(len as u64)?;
         }
-        Got::Refused(number) => numbered(b": refused by ", number),
+        Got::Refused(number) => numbered(rt, b": refused by ", number)?,
     }
-    print(b"\n");
+    print(rt, b"\n")
 }
 
 // 53, 54 and 1 take 15 octets, and their data begin at 2, 5 and 11.
-fn long_option() {
+fn long_option(rt: &impl Print) -> io::Result<()> {
     let reply = with(&[100, 240], 497, &[101, 1, 7]);
     let client = told(&reply, NONE, 0);
-    got(b"option 53", client.get(53));
-    got(b"option 54", client.get(54));
-    got(b"option 1", client.get(1));
-    got(b"option 100 of 240 octets", client.get(100));
-    got(b"option 101 behind it", client.get(101));
+    got(rt, b"option 53", client.get(53))?;
+    got(rt, b"option 54", client.get(54))?;
+    got(rt, b"option 1", client.get(1))?;
+    got(rt, b"option 100 of 240 octets", client.get(100))?;
+    got(rt, b"option 101 behind it", client.get(101))
 }
 
-fn full_store() {
+fn full_store(rt: &impl Print) -> io::Result<()> {
     let reply = with(&[100, 239], 496, &[101, 1, 7]);
     let client = told(&reply, NONE, 0);
-    got(b"option 100 of 239 octets", client.get(100));
-    got(b"option 101 behind it", client.get(101));
+    got(rt, b"option 100 of 239 octets", client.get(100))?;
+    got(rt, b"option 101 behind it", client.get(101))
 }
 
 // A client that took a plain ACK at 0.
@@ -60,40 +60,41 @@ fn left(state: ClientState) -> Client {
     client(state, lease, NONE)
 }
 
-fn looked_up() {
-    look_up(b"in Init", left(ClientState::Init));
+fn looked_up(rt: &impl Print) -> io::Result<()> {
+    look_up(rt, b"in Init", left(ClientState::Init))?;
     look_up(
+        rt,
         b"in Discovering",
         left(ClientState::Discovering(DiscoverState {
             retry_at: Instant { millis: 10000 },
         })),
-    );
-    look_up(b"in Requesting", left(requesting()));
-    look_up(b"in Renewing", held());
+    )?;
+    look_up(rt, b"in Requesting", left(requesting()))?;
+    look_up(rt, b"in Renewing", held())
 }
 
 // The state and the lease, then option 53.
-fn look_up(asked: &[u8], client: Client) {
+fn look_up(rt: &impl Print, asked: &[u8], client: Client) -> io::Result<()> {
     let leased = client.lease();
     let held = leased.held;
-    print(asked);
-    print_standing(client.state());
-    print_held(held);
-    print_lease(leased.lease);
-    got(b", option 53", client.get(53));
+    print(rt, asked)?;
+    print_standing(rt, client.state())?;
+    print_held(rt, held)?;
+    print_lease(rt, leased.lease)?;
+    got(rt, b", option 53", client.get(53))
 }
 
-fn print_standing(standing: Standing) {
+fn print_standing(rt: &impl Print, standing: Standing) -> io::Result<()> {
     match standing {
-        Standing::In(state) => print_times(state),
-        Standing::Refused(number) => numbered(b": refused by ", number),
+        Standing::In(state) => print_times(rt, state),
+        Standing::Refused(number) => numbered(rt, b": refused by ", number),
     }
 }
 
-fn print_held(held: Has) {
+fn print_held(rt: &impl Print, held: Has) -> io::Result<()> {
     match held {
-        Has::No => print(b", not held"),
-        Has::Yes => print(b", held"),
-        Has::Refused(number) => numbered(b", refused by ", number),
+        Has::No => print(rt, b", not held"),
+        Has::Yes => print(rt, b", held"),
+        Has::Refused(number) => numbered(rt, b", refused by ", number),
     }
 }

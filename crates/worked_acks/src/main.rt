@@ -3,14 +3,16 @@
 
 #![tactic(auto)]
 
+use std::io;
+
 mod leases;
 mod lookups;
 mod made;
 mod print;
 mod times;
 
-fn main() {
-    times::examples();
-    leases::examples();
-    lookups::examples();
+fn main(rt: HostRuntime) -> io::Result<()> {
+    times::examples(&rt)?;
+    leases::examples(&rt)?;
+    lookups::examples(&rt)
 }

@@ -1,78 +1,79 @@
 // What the examples print.
 use lease::DhcpLease;
-use libc::STDOUT_FILENO;
 use machine::{ClientState, DhcpServerInfo, RenewState};
 use octets::MaybeNumber;
+use std::io;
 use wire::Addresses;
 
-pub fn print(words: &[u8]) {
-    io::write_all(STDOUT_FILENO, words);
+pub fn print(rt: &impl Print, words: &[u8]) -> io::Result<()> {
+    rt.write_all(words)
 }
 
 // Words, and a number after them.
-pub fn numbered(words: &[u8], number: u32) {
-    print(words);
-    io::print_decimal(STDOUT_FILENO, number as u64);
+pub fn numbered(rt: &impl Print, words: &[u8], number: u32) -> io::Result<()> {
+    print(rt, words)?;
+    rt.print(number as u64)
 }
 
 // When a lease is renewed, rebound and over.
-pub fn print_times(state: ClientState) {
+pub fn print_times(rt: &impl Print, state: ClientState) -> io::Result<()> {
     match state {
-        ClientState::Init => print(b": no lease"),
-        ClientState::Discovering(_) => print(b": no lease"),
-        ClientState::Requesting(_) => print(b": no lease"),
-        ClientState::Renewing(s) => print_moments(s),
+        ClientState::Init => print(rt, b": no lease"),
+        ClientState::Discovering(_) => print(rt, b": no lease"),
+        ClientState::Requesting(_) => print(rt, b": no lease"),
+        ClientState::Renewing(s) => print_moments(rt, s),
     }
 }
 
-fn print_moments(s: RenewState) {
-    numbered(b": ", s.renew_at.millis);
-    numbered(b" ", s.rebind_at.millis);
-    numbered(b" ", s.expires_at.millis);
+fn print_moments(rt: &impl Print, s: RenewState) -> io::Result<()> {
+    numbered(rt, b": ", s.renew_at.millis)?;
+    numbered(rt, b" ", s.rebind_at.millis)?;
+    numbered(rt, b" ", s.expires_at.millis)
 }
 
-fn print_address(words: &[u8], address: u32) {
-    numbered(words, address / 16777216);
-    numbered(b".", address / 65536 % 256);
-    numbered(b".", address / 256 % 256);
-    numbered(b".", address % 256);
+fn print_address(rt: &impl Print, words: &[u8], address: u32) -> io::Result<()> {
+    numbered(rt, words, address / 16777216)?;
+    numbered(rt, b".", address / 65536 % 256)?;
+    numbered(rt, b".", address / 256 % 256)?;
+    numbered(rt, b".", address % 256)
 }
 
-fn print_server(server: DhcpServerInfo) {
-    print_address(b" from ", server.address);
-    print_address(b" ", server.identifier);
+fn print_server(rt: &impl Print, server: DhcpServerInfo) -> io::Result<()> {
+    print_address(rt, b" from ", server.address)?;
+    print_address(rt, b" ", server.identifier)
 }
 
-pub fn print_lease(lease: DhcpLease) {
+pub fn print_lease(rt: &impl Print, lease: DhcpLease) -> io::Result<()> {
     let server = lease.server;
     let router = lease.router;
     let dns = lease.dns;
-    print_address(b": ", lease.address);
-    numbered(b"/", lease.prefix as u32);
-    print_server(server);
-    print_router(router);
-    print_dns(dns);
-    print(b" stored ");
-    io::print_decimal(STDOUT_FILENO, lease.options.len as u64);
+    print_address(rt, b": ", lease.address)?;
+    numbered(rt, b"/", lease.prefix as u32)?;
+    print_server(rt, server)?;
+    print_router(rt, router)?;
+    print_dns(rt, dns)?;
+    print(rt, b" stored ")?;
+    rt.print(lease.options.len as u64)
 }
 
-fn print_router(router: MaybeNumber) {
+fn print_router(rt: &impl Print, router: MaybeNumber) -> io::Result<()> {
     match router {
-        MaybeNumber::None => {}
-        MaybeNumber::Some(address) => print_address(b" router ", address),
+        MaybeNumber::None => Ok(()),
+        MaybeNumber::Some(address) => print_address(rt, b" router ", address),
     }
 }
 
-fn print_dns(dns: Addresses) {
+fn print_dns(rt: &impl Print, dns: Addresses) -> io::Result<()> {
     let n = dns.count;
     let list = dns.list;
-    print_server_if(0 < n, list[0]);
-    print_server_if(1 < n, list[1]);
-    print_server_if(2 < n, list[2]);
+    print_server_if(rt, 0 < n, list[0])?;
+    print_server_if(rt, 1 < n, list[1])?;
+    print_server_if(rt, 2 < n, list[2])
 }
 
-fn print_server_if(there: bool, address: u32) {
+fn print_server_if(rt: &impl Print, there: bool, address: u32) -> io::Result<()> {
     if there {
-        print_address(b" DNS ", address);
+        print_address(rt, b" DNS ", address)?;
     }
+    Ok(())
 }

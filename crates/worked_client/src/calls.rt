@@ -4,23 +4,24 @@ use crate::print::{numbered, print_kept};
 use crate::same::{same_client, same_tables};
 use client::{Client, ReplyOutcome, ResetOutcome, Standing};
 use clock::Instant;
+use std::io;
 use tables::{Has, Tables};
 use wire::Got;
 
-pub fn every_call(client: Client, tables: Tables) {
-    let replied = reply(client, tables);
-    let restarted = reset(client, tables);
-    look_ups(client);
-    print_kept(replied & restarted);
+pub fn every_call(rt: &impl Print, client: Client, tables: Tables) -> io::Result<()> {
+    let replied = reply(rt, client, tables)?;
+    let restarted = reset(rt, client, tables)?;
+    look_ups(rt, client)?;
+    print_kept(rt, replied & restarted)
 }
 
 // A plain ACK at 7 ms.
-fn reply(client: Client, tables: Tables) -> bool {
+fn reply(rt: &impl Print, client: Client, tables: Tables) -> io::Result<bool> {
     let plain = plain_ack();
     let told = client.process(tables, SERVER, &plain, Instant { millis: 7 });
     let outcome = told.outcome;
-    numbered(b": reply ", reply_number(outcome));
-    same_client(client, told.client) & same_tables(tables, told.tables)
+    numbered(rt, b": reply ", reply_number(outcome))?;
+    Ok(same_client(client, told.client) & same_tables(tables, told.tables))
 }
 
 fn reply_number(outcome: ReplyOutcome) -> u32 {
@@ -31,11 +32,11 @@ fn reply_number(outcome: ReplyOutcome) -> u32 {
     }
 }
 
-fn reset(client: Client, tables: Tables) -> bool {
+fn reset(rt: &impl Print, client: Client, tables: Tables) -> io::Result<bool> {
     let done = client.reset(tables);
     let outcome = done.outcome;
-    numbered(b", reset ", reset_number(outcome));
-    same_client(client, done.client) & same_tables(tables, done.tables)
+    numbered(rt, b", reset ", reset_number(outcome))?;
+    Ok(same_client(client, done.client) & same_tables(tables, done.tables))
 }
 
 fn reset_number(outcome: ResetOutcome) -> u32 {
@@ -45,12 +46,12 @@ fn reset_number(outcome: ResetOutcome) -> u32 {
     }
 }
 
-fn look_ups(client: Client) {
+fn look_ups(rt: &impl Print, client: Client) -> io::Result<()> {
     let leased = client.lease();
     let held = leased.held;
-    numbered(b", lease ", lease_number(held));
-    numbered(b", get ", got_number(client.get(53)));
-    numbered(b", state ", state_number(client.state()));
+    numbered(rt, b", lease ", lease_number(held))?;
+    numbered(rt, b", get ", got_number(client.get(53)))?;
+    numbered(rt, b", state ", state_number(client.state()))
 }
 
 fn lease_number(held: Has) -> u32 {

@@ -2,6 +2,8 @@
 
 #![tactic(auto)]
 
+use std::io;
+
 mod broken;
 mod calls;
 mod creation;
@@ -9,7 +11,7 @@ mod made;
 mod print;
 mod same;
 
-fn main() {
-    creation::examples();
-    broken::examples();
+fn main(rt: HostRuntime) -> io::Result<()> {
+    creation::examples(&rt)?;
+    broken::examples(&rt)
 }

@@ -1,39 +1,39 @@
 // What the examples print.
-use libc::STDOUT_FILENO;
+use std::io;
 use tables::Outcome;
 
-pub fn print(words: &[u8]) {
-    io::write_all(STDOUT_FILENO, words);
+pub fn print(rt: &impl Print, words: &[u8]) -> io::Result<()> {
+    rt.write_all(words)
 }
 
 // Words, and a number after them.
-pub fn numbered(words: &[u8], number: u32) {
-    print(words);
-    io::print_decimal(STDOUT_FILENO, number as u64);
+pub fn numbered(rt: &impl Print, words: &[u8], number: u32) -> io::Result<()> {
+    print(rt, words)?;
+    rt.print(number as u64)
 }
 
 // A line: what was asked, and yes or no.
-pub fn test(asked: &[u8], holds: bool) {
-    print(asked);
+pub fn test(rt: &impl Print, asked: &[u8], holds: bool) -> io::Result<()> {
+    print(rt, asked)?;
     if holds {
-        print(b": yes\n");
+        print(rt, b": yes\n")
     } else {
-        print(b": no\n");
+        print(rt, b": no\n")
     }
 }
 
-pub fn print_created(outcome: Outcome) {
+pub fn print_created(rt: &impl Print, outcome: Outcome) -> io::Result<()> {
     match outcome {
-        Outcome::Done => print(b": created"),
-        Outcome::Refused(number) => numbered(b": refused by ", number),
+        Outcome::Done => print(rt, b": created"),
+        Outcome::Refused(number) => numbered(rt, b": refused by ", number),
     }
 }
 
 // The end of a line: whether client and tables came back as they were.
-pub fn print_kept(kept: bool) {
+pub fn print_kept(rt: &impl Print, kept: bool) -> io::Result<()> {
     if kept {
-        print(b", nothing changed\n");
+        print(rt, b", nothing changed\n")
     } else {
-        print(b", changed\n");
+        print(rt, b", changed\n")
     }
 }

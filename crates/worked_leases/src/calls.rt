@@ -3,51 +3,65 @@ use crate::made::{Post, SERVER, client, post_of};
 use crate::print::{print, print_purge, show};
 use client::{ReplyOutcome, ResetOutcome};
 use clock::Instant;
+use std::io;
 
 // A reply of the server's, at a moment.
-pub fn told(asked: &[u8], post: Post, reply: [u8; 600], millis: u32) -> Post {
-    told_by(asked, post, SERVER, &reply, millis)
+pub fn told(
+    rt: &impl Print,
+    asked: &[u8],
+    post: Post,
+    reply: [u8; 600],
+    millis: u32,
+) -> io::Result<Post> {
+    told_by(rt, asked, post, SERVER, &reply, millis)
 }
 
-pub fn told_by(asked: &[u8], before: Post, source: u32, reply: &[u8], millis: u32) -> Post {
+pub fn told_by(
+    rt: &impl Print,
+    asked: &[u8],
+    before: Post,
+    source: u32,
+    reply: &[u8],
+    millis: u32,
+) -> io::Result<Post> {
     let client = client(before);
     let told = client.process(before.tables, source, reply, Instant { millis });
     let outcome = told.outcome;
     let after = post_of(told.client, told.tables);
-    print(asked);
-    print_outcome(outcome);
-    show(after);
-    after
+    print(rt, asked)?;
+    print_outcome(rt, outcome)?;
+    show(rt, after)?;
+    Ok(after)
 }
 
-fn print_outcome(outcome: ReplyOutcome) {
+fn print_outcome(rt: &impl Print, outcome: ReplyOutcome) -> io::Result<()> {
     match outcome {
         ReplyOutcome::Taken { purge } => {
-            print(b": taken");
-            print_purge(purge);
+            print(rt, b": taken")?;
+            print_purge(rt, purge)
         }
-        ReplyOutcome::PassedOver(_) => print(b": passed over |"),
-        ReplyOutcome::Refused(_) => print(b": refused |"),
+        ReplyOutcome::PassedOver(_) => print(rt, b": passed over |"),
+        ReplyOutcome::Refused(_) => print(rt, b": refused |"),
     }
 }
 
-pub fn was_reset(asked: &[u8], before: Post) -> Post {
+pub fn was_reset(rt: &impl Print, asked: &[u8], before: Post) -> io::Result<Post> {
     let client = client(before);
     let done = client.reset(before.tables);
     let outcome = done.outcome;
     let after = post_of(done.client, done.tables);
-    print(asked);
-    print_reset(outcome);
-    show(after);
-    after
+    print(rt, asked)?;
+    print_reset(rt, outcome)?;
+    show(rt, after)?;
+    Ok(after)
 }
 
-fn print_reset(outcome: ResetOutcome) {
+fn print_reset(rt: &impl Print, outcome: ResetOutcome) -> io::Result<()> {
     match outcome {
         ResetOutcome::Done { purge } => {
-            print(b": done");
-            print_purge(purge);
+            print(rt, b": done")?;
+            print_purge(rt, purge)
         }
-        ResetOutcome::Refused(_) => print(b": refused |"),
+        ResetOutcome::Refused(_) => print(rt, b": refused |"),
     }
 }

@@ -2,11 +2,19 @@
 use crate::calls::{told, was_reset};
 use crate::made::{discovering, held, left, requesting, typed};
 use machine::ClientState;
+use std::io;
 
-pub fn examples() {
-    told(b"NAK in Requesting", left(requesting()), typed(6, &[]), 0);
-    told(b"NAK in Renewing", held(), typed(6, &[]), 0);
-    was_reset(b"reset in Init", left(ClientState::Init));
-    was_reset(b"reset in Discovering", left(discovering()));
-    was_reset(b"reset in Requesting", left(requesting()));
+pub fn examples(rt: &impl Print) -> io::Result<()> {
+    told(
+        rt,
+        b"NAK in Requesting",
+        left(requesting()),
+        typed(6, &[]),
+        0,
+    )?;
+    told(rt, b"NAK in Renewing", held(), typed(6, &[]), 0)?;
+    was_reset(rt, b"reset in Init", left(ClientState::Init))?;
+    was_reset(rt, b"reset in Discovering", left(discovering()))?;
+    was_reset(rt, b"reset in Requesting", left(requesting()))?;
+    Ok(())
 }

@@ -3,6 +3,8 @@
 
 #![tactic(auto)]
 
+use std::io;
+
 mod calls;
 mod endings;
 mod installed;
@@ -11,9 +13,9 @@ mod offers;
 mod print;
 mod renewals;
 
-fn main() {
-    offers::examples();
-    renewals::examples();
-    installed::examples();
-    endings::examples();
+fn main(rt: HostRuntime) -> io::Result<()> {
+    offers::examples(&rt)?;
+    renewals::examples(&rt)?;
+    installed::examples(&rt)?;
+    endings::examples(&rt)
 }

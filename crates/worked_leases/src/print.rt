@@ -2,132 +2,135 @@
 // addresses, default route; a star marks an entry of DHCP's.
 use crate::made::Post;
 use lease::DhcpLease;
-use libc::STDOUT_FILENO;
 use machine::{ClientState, DhcpServerInfo, RenewState, RequestState};
 use octets::MaybeNumber;
+use std::io;
 use tables::{AddrAt, RouteAt, Tables};
 
-pub fn print(words: &[u8]) {
-    io::write_all(STDOUT_FILENO, words);
+pub fn print(rt: &impl Print, words: &[u8]) -> io::Result<()> {
+    rt.write_all(words)
 }
 
 // Words, and a number after them.
-pub fn numbered(words: &[u8], number: u32) {
-    print(words);
-    io::print_decimal(STDOUT_FILENO, number as u64);
+pub fn numbered(rt: &impl Print, words: &[u8], number: u32) -> io::Result<()> {
+    print(rt, words)?;
+    rt.print(number as u64)
 }
 
-fn print_address(words: &[u8], address: u32) {
-    numbered(words, address / 16777216);
-    numbered(b".", address / 65536 % 256);
-    numbered(b".", address / 256 % 256);
-    numbered(b".", address % 256);
+fn print_address(rt: &impl Print, words: &[u8], address: u32) -> io::Result<()> {
+    numbered(rt, words, address / 16777216)?;
+    numbered(rt, b".", address / 65536 % 256)?;
+    numbered(rt, b".", address / 256 % 256)?;
+    numbered(rt, b".", address % 256)
 }
 
-fn print_addr(at: AddrAt) {
+fn print_addr(rt: &impl Print, at: AddrAt) -> io::Result<()> {
     match at {
-        AddrAt::Absent => {}
-        AddrAt::Refused(number) => numbered(b" refused by ", number),
+        AddrAt::Absent => Ok(()),
+        AddrAt::Refused(number) => numbered(rt, b" refused by ", number),
         AddrAt::Entry(entry) => {
-            print_address(b" ", entry.address);
-            numbered(b"/", entry.prefix as u32);
+            print_address(rt, b" ", entry.address)?;
+            numbered(rt, b"/", entry.prefix as u32)?;
             if entry.dhcp {
-                print(b"*");
+                print(rt, b"*")?;
             }
+            Ok(())
         }
     }
 }
 
-fn print_route(at: RouteAt) {
+fn print_route(rt: &impl Print, at: RouteAt) -> io::Result<()> {
     match at {
-        RouteAt::Absent => {}
-        RouteAt::Refused(number) => numbered(b" refused by ", number),
+        RouteAt::Absent => Ok(()),
+        RouteAt::Refused(number) => numbered(rt, b" refused by ", number),
         RouteAt::Entry(entry) => {
-            print_address(b" ", entry.network);
-            numbered(b"/", entry.prefix as u32);
-            print_address(b" by ", entry.router);
+            print_address(rt, b" ", entry.network)?;
+            numbered(rt, b"/", entry.prefix as u32)?;
+            print_address(rt, b" by ", entry.router)?;
             if entry.dhcp {
-                print(b"*");
+                print(rt, b"*")?;
             }
+            Ok(())
         }
     }
 }
 
-fn print_tables(t: Tables) {
-    numbered(b" | ", t.config_generation);
-    print(b" |");
-    print_addr(t.addr_at(0));
-    print_addr(t.addr_at(1));
-    print_addr(t.addr_at(2));
-    print_addr(t.addr_at(3));
-    print(b" |");
-    print_route(t.default_ipv4_route());
-    print(b"\n");
+fn print_tables(rt: &impl Print, t: Tables) -> io::Result<()> {
+    numbered(rt, b" | ", t.config_generation)?;
+    print(rt, b" |")?;
+    print_addr(rt, t.addr_at(0))?;
+    print_addr(rt, t.addr_at(1))?;
+    print_addr(rt, t.addr_at(2))?;
+    print_addr(rt, t.addr_at(3))?;
+    print(rt, b" |")?;
+    print_route(rt, t.default_ipv4_route())?;
+    print(rt, b"\n")
 }
 
-fn print_state(state: ClientState) {
+fn print_state(rt: &impl Print, state: ClientState) -> io::Result<()> {
     match state {
-        ClientState::Init => print(b" Init"),
-        ClientState::Discovering(s) => numbered(b" Discovering, due ", s.retry_at.millis),
-        ClientState::Requesting(s) => print_requesting(s),
-        ClientState::Renewing(s) => print_renewing(s),
+        ClientState::Init => print(rt, b" Init"),
+        ClientState::Discovering(s) => numbered(rt, b" Discovering, due ", s.retry_at.millis),
+        ClientState::Requesting(s) => print_requesting(rt, s),
+        ClientState::Renewing(s) => print_renewing(rt, s),
     }
 }
 
-fn print_requesting(s: RequestState) {
+fn print_requesting(rt: &impl Print, s: RequestState) -> io::Result<()> {
     let server = s.server;
-    print_address(b" Requesting ", s.requested_ip);
-    print_server(server);
-    numbered(b", due ", s.tries.retry_at.millis);
-    numbered(b", retry ", s.tries.retry as u32);
+    print_address(rt, b" Requesting ", s.requested_ip)?;
+    print_server(rt, server)?;
+    numbered(rt, b", due ", s.tries.retry_at.millis)?;
+    numbered(rt, b", retry ", s.tries.retry as u32)
 }
 
-fn print_renewing(s: RenewState) {
-    numbered(b" Renewing ", s.renew_at.millis);
-    numbered(b" ", s.rebind_at.millis);
-    numbered(b" ", s.expires_at.millis);
+fn print_renewing(rt: &impl Print, s: RenewState) -> io::Result<()> {
+    numbered(rt, b" Renewing ", s.renew_at.millis)?;
+    numbered(rt, b" ", s.rebind_at.millis)?;
+    numbered(rt, b" ", s.expires_at.millis)?;
     if s.rebinding {
-        print(b" rebinding");
+        print(rt, b" rebinding")?;
     }
+    Ok(())
 }
 
-fn print_server(server: DhcpServerInfo) {
-    print_address(b" from ", server.address);
-    print_address(b" ", server.identifier);
+fn print_server(rt: &impl Print, server: DhcpServerInfo) -> io::Result<()> {
+    print_address(rt, b" from ", server.address)?;
+    print_address(rt, b" ", server.identifier)
 }
 
-fn print_lease(lease: DhcpLease) {
+fn print_lease(rt: &impl Print, lease: DhcpLease) -> io::Result<()> {
     let server = lease.server;
     let router = lease.router;
-    print_address(b" | ", lease.address);
-    numbered(b"/", lease.prefix as u32);
-    print_server(server);
-    print_router(router);
-    print(b" stored ");
-    io::print_decimal(STDOUT_FILENO, lease.options.len as u64);
+    print_address(rt, b" | ", lease.address)?;
+    numbered(rt, b"/", lease.prefix as u32)?;
+    print_server(rt, server)?;
+    print_router(rt, router)?;
+    print(rt, b" stored ")?;
+    rt.print(lease.options.len as u64)
 }
 
-fn print_router(router: MaybeNumber) {
+fn print_router(rt: &impl Print, router: MaybeNumber) -> io::Result<()> {
     match router {
-        MaybeNumber::None => {}
-        MaybeNumber::Some(address) => print_address(b" router ", address),
+        MaybeNumber::None => Ok(()),
+        MaybeNumber::Some(address) => print_address(rt, b" router ", address),
     }
 }
 
-pub fn print_purge(purge: bool) {
+pub fn print_purge(rt: &impl Print, purge: bool) -> io::Result<()> {
     if purge {
-        print(b", purge |");
+        print(rt, b", purge |")
     } else {
-        print(b", no purge |");
+        print(rt, b", no purge |")
     }
 }
 
 // The end of a line: the whole post.
-pub fn show(post: Post) {
+pub fn show(rt: &impl Print, post: Post) -> io::Result<()> {
     let state = post.state;
     let lease = post.lease;
-    print_state(state);
-    numbered(b", id ", post.id);
-    print_lease(lease);
-    print_tables(post.tables);
+    print_state(rt, state)?;
+    numbered(rt, b", id ", post.id)?;
+    print_lease(rt, lease)?;
+    print_tables(rt, post.tables)
 }

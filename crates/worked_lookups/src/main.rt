@@ -3,14 +3,16 @@
 
 #![tactic(auto)]
 
+use std::io;
+
 mod generator;
 mod lookups;
 mod made;
 mod print;
 mod unused;
 
-fn main() {
-    lookups::examples();
-    unused::examples();
-    generator::examples();
+fn main(rt: HostRuntime) -> io::Result<()> {
+    lookups::examples(&rt)?;
+    unused::examples(&rt)?;
+    generator::examples(&rt)
 }

@@ -1,22 +1,22 @@
 // What the examples print.
-use libc::STDOUT_FILENO;
+use std::io;
 
-pub fn print(words: &[u8]) {
-    io::write_all(STDOUT_FILENO, words);
+pub fn print(rt: &impl Print, words: &[u8]) -> io::Result<()> {
+    rt.write_all(words)
 }
 
 // Words, and a number after them.
-pub fn numbered(words: &[u8], number: u64) {
-    print(words);
-    io::print_decimal(STDOUT_FILENO, number);
+pub fn numbered(rt: &impl Print, words: &[u8], number: u64) -> io::Result<()> {
+    print(rt, words)?;
+    rt.print(number)
 }
 
 // A line: what was asked, and yes or no.
-pub fn test(asked: &[u8], holds: bool) {
-    print(asked);
+pub fn test(rt: &impl Print, asked: &[u8], holds: bool) -> io::Result<()> {
+    print(rt, asked)?;
     if holds {
-        print(b": yes\n");
+        print(rt, b": yes\n")
     } else {
-        print(b": no\n");
+        print(rt, b": no\n")
     }
 }

@@ -10,28 +10,31 @@ use octets::MaybeNumber;
 use octets::codes::DISCOVER;
 use octets::span::same;
 use settings::Settings;
+use std::io;
 use tables::{AddrTable, IfaceAddr, Outcome, Route, RouteTable, Tables};
 
-pub fn examples() {
-    created();
-    behind_a_no();
-    held();
-    tables_kept();
-    left();
+pub fn examples(rt: &impl Print) -> io::Result<()> {
+    created(rt)?;
+    behind_a_no(rt)?;
+    held(rt)?;
+    tables_kept(rt)?;
+    left(rt)
 }
 
 // "all zero after creation"; a client that was refused is all zero too.
-fn created() {
+fn created(rt: &impl Print) -> io::Result<()> {
     let fresh = Client::new(settings(7), true).client;
     test(
+        rt,
         b"after creation: id 1, the lease all zero",
         (fresh.session.transaction_id == 1) & is_zero(fresh.lease),
-    );
+    )?;
     let none = Client::new(Settings::zero(), true).client;
     test(
+        rt,
         b"after a refusal: id 0, NAKs not ignored, the lease all zero",
         (none.session.transaction_id == 0) & !none.ignore_naks & is_zero(none.lease),
-    );
+    )
 }
 
 fn is_zero(lease: DhcpLease) -> bool {
@@ -54,24 +57,26 @@ fn unread() -> Settings {
     unread
 }
 
-fn behind_a_no() {
+fn behind_a_no(rt: &impl Print) -> io::Result<()> {
     let created = Client::new(unread(), false);
     let outcome = created.outcome;
     print(
+        rt,
         b"65 codes behind no list, 1,073,741,825 ms behind no maximum, 7 in all places not in use",
-    );
+    )?;
     match outcome {
-        Outcome::Done => print(b": created\n"),
-        Outcome::Refused(_) => print(b": refused\n"),
+        Outcome::Done => print(rt, b": created\n")?,
+        Outcome::Refused(_) => print(rt, b": refused\n")?,
     }
     test(
+        rt,
         b"its Discover is that of the same settings with 0 there",
         same_discover(),
-    );
+    )?;
     let after = told(unread(), requesting(1), 5, &[51, 4, 0, 0, 14, 16]);
     let session = after.client.session;
     let state = session.state;
-    test(b"its lease of 3,600 s lasts so long", lasts(state));
+    test(rt, b"its lease of 3,600 s lasts so long", lasts(state))
 }
 
 // The message that a poll would send, of id 3. Polls themselves are records.
@@ -146,34 +151,39 @@ fn wide() -> Tables {
 }
 
 // The lease equals the ACK's, and stays as it came. Another ACK writes it whole.
-fn held() {
+fn held(rt: &impl Print) -> io::Result<()> {
     test(
+        rt,
         b"a lease with 7 in all places not in use: an equal ACK leaves the generation",
         tables_told(renewing(), &[]).config_generation == 0,
-    );
+    )?;
     test(
+        rt,
         b"and the places as they came",
         has_unused(lease_told(renewing(), 5, &[]), 7),
-    );
+    )?;
     test(
+        rt,
         b"an ACK with option 51 leaves zeros in them",
         has_unused(lease_told(renewing(), 5, &[51, 4, 0, 0, 0, 120]), 0),
-    );
+    )
 }
 
 // A table whose value changes is written anew, with zeros after its entries; another is left as it came.
-fn tables_kept() {
+fn tables_kept(rt: &impl Print) -> io::Result<()> {
     print(
+        rt,
         b"prefix 33 at places of the tables that are not in use: how many entries then, and the prefix at the fourth place\n",
-    );
-    entries(b"an ACK", tables_told(requesting(1), &[]));
+    )?;
+    entries(rt, b"an ACK", tables_told(requesting(1), &[]))?;
     entries(
+        rt,
         b"an ACK with a router",
         tables_told(requesting(1), &[3, 4, 10, 0, 0, 1]),
-    );
-    entries(b"an equal ACK", tables_told(renewing(), &[]));
-    entries(b"a reset in Renewing", tables_reset(renewing()));
-    entries(b"a reset in Requesting", tables_reset(requesting(1)));
+    )?;
+    entries(rt, b"an equal ACK", tables_told(renewing(), &[]))?;
+    entries(rt, b"a reset in Renewing", tables_reset(renewing()))?;
+    entries(rt, b"a reset in Requesting", tables_reset(requesting(1)))
 }
 
 fn tables_reset(state: ClientState) -> Tables {
@@ -185,43 +195,52 @@ fn lease_reset(state: ClientState) -> DhcpLease {
     after.client.lease
 }
 
-fn entries(asked: &[u8], tables: Tables) {
+fn entries(rt: &impl Print, asked: &[u8], tables: Tables) -> io::Result<()> {
     let addresses = tables.ip_addrs;
     let routes = tables.routes;
     let last = addresses.entries[3];
     let end = routes.entries[3];
-    print(asked);
-    numbered(b": addresses ", addresses.count as u64);
-    numbered(b" and ", last.prefix as u64);
-    numbered(b", routes ", routes.count as u64);
-    numbered(b" and ", end.prefix as u64);
-    print(b"\n");
+    print(rt, asked)?;
+    numbered(rt, b": addresses ", addresses.count as u64)?;
+    numbered(rt, b" and ", last.prefix as u64)?;
+    numbered(rt, b", routes ", routes.count as u64)?;
+    numbered(rt, b" and ", end.prefix as u64)?;
+    print(rt, b"\n")
 }
 
 // A lease that was left in a state other than Renewing stays as it came; leaving Renewing makes it all zero.
-fn left() {
-    print(b"a lease left in another state than Renewing, with 7 in all places not in use\n");
-    kept(b"a reset in Init", lease_reset(ClientState::Init));
-    kept(b"a reset in Discovering", lease_reset(discovering()));
-    kept(b"a reset in Requesting", lease_reset(requesting(1)));
+fn left(rt: &impl Print) -> io::Result<()> {
+    print(
+        rt,
+        b"a lease left in another state than Renewing, with 7 in all places not in use\n",
+    )?;
+    kept(rt, b"a reset in Init", lease_reset(ClientState::Init))?;
+    kept(rt, b"a reset in Discovering", lease_reset(discovering()))?;
+    kept(rt, b"a reset in Requesting", lease_reset(requesting(1)))?;
     kept(
+        rt,
         b"an OFFER in Discovering",
         lease_told(discovering(), 2, &[]),
-    );
-    kept(b"a NAK in Requesting", lease_told(requesting(1), 6, &[]));
-    cleared(b"a reset in Renewing", lease_reset(renewing()));
-    cleared(b"a NAK in Renewing", lease_told(renewing(), 6, &[]));
+    )?;
+    kept(
+        rt,
+        b"a NAK in Requesting",
+        lease_told(requesting(1), 6, &[]),
+    )?;
+    cleared(rt, b"a reset in Renewing", lease_reset(renewing()))?;
+    cleared(rt, b"a NAK in Renewing", lease_told(renewing(), 6, &[]))
 }
 
-fn kept(asked: &[u8], lease: DhcpLease) {
-    print(asked);
+fn kept(rt: &impl Print, asked: &[u8], lease: DhcpLease) -> io::Result<()> {
+    print(rt, asked)?;
     test(
+        rt,
         b" leaves it as it came",
         (lease.prefix == 24) & has_unused(lease, 7),
-    );
+    )
 }
 
-fn cleared(asked: &[u8], lease: DhcpLease) {
-    print(asked);
-    test(b" leaves it all zero", is_zero(lease));
+fn cleared(rt: &impl Print, asked: &[u8], lease: DhcpLease) -> io::Result<()> {
+    print(rt, asked)?;
+    test(rt, b" leaves it all zero", is_zero(lease))
 }

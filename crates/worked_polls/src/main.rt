@@ -13,34 +13,42 @@ mod post;
 mod print;
 
 use numbers::{first, numbers_in};
-use octets::span::up_to;
 use post::Post;
 use print::{print, show};
+use std::io;
+use std::io::Read;
 
-fn main() {
-    let mut text = io::large_buffer();
-    let n = io::read_full(libc::STDIN_FILENO, &mut text);
-    run(up_to(&text, n));
+fn main(rt: HostRuntime) -> io::Result<()> {
+    let text = input(&rt)?;
+    run(&rt, text.as_slice())
+}
+
+// The input, as far as its first 65,536 octets.
+fn input(rt: &(impl Input + AllocGlobal)) -> io::Result<Vec<u8>> {
+    let mut text = Vec::new(rt.alloc());
+    rt.reader().take(65536).read_to_end(&mut text)?;
+    Ok(text)
 }
 
 // Before the first line there is a post without a client: MTU 0 is refused.
-fn run(text: &[u8]) {
+fn run(rt: &impl Print, text: &[u8]) -> io::Result<()> {
     let mut post = calls::new([0; 10]);
     let mut at = 0;
     while at < text.len() {
-        post = line(post, trace::line_at(text, at));
+        post = line(rt, post, trace::line_at(text, at))?;
         at = trace::after_line(text, at);
     }
+    Ok(())
 }
 
-fn line(post: Post, words: &[u8]) -> Post {
+fn line(rt: &impl Print, post: Post, words: &[u8]) -> io::Result<Post> {
     let key = first(words);
-    print(words);
+    print(rt, words)?;
     if key == b'#' {
-        print(b"\n");
-        return post;
+        print(rt, b"\n")?;
+        return Ok(post);
     }
-    let after = calls::called(post, key, numbers_in(words));
-    show(after);
-    after
+    let after = calls::called(rt, post, key, numbers_in(words))?;
+    show(rt, after)?;
+    Ok(after)
 }

@@ -2,11 +2,13 @@
 
 #![tactic(auto)]
 
+use std::io;
+
 mod made;
 mod passed_over;
 mod print;
 mod same;
 
-fn main() {
-    passed_over::examples();
+fn main(rt: HostRuntime) -> io::Result<()> {
+    passed_over::examples(&rt)
 }

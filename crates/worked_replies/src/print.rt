@@ -1,30 +1,30 @@
 // What the examples print.
 use client::ReplyOutcome;
-use libc::STDOUT_FILENO;
+use std::io;
 
-pub fn print(words: &[u8]) {
-    io::write_all(STDOUT_FILENO, words);
+pub fn print(rt: &impl Print, words: &[u8]) -> io::Result<()> {
+    rt.write_all(words)
 }
 
 // Words, and a number after them.
-fn numbered(words: &[u8], number: u32) {
-    print(words);
-    io::print_decimal(STDOUT_FILENO, number as u64);
+fn numbered(rt: &impl Print, words: &[u8], number: u32) -> io::Result<()> {
+    print(rt, words)?;
+    rt.print(number as u64)
 }
 
-pub fn print_outcome(outcome: ReplyOutcome) {
+pub fn print_outcome(rt: &impl Print, outcome: ReplyOutcome) -> io::Result<()> {
     match outcome {
-        ReplyOutcome::Taken { purge: _ } => print(b": taken"),
-        ReplyOutcome::PassedOver(number) => numbered(b": passed over by ", number),
-        ReplyOutcome::Refused(number) => numbered(b": refused by ", number),
+        ReplyOutcome::Taken { purge: _ } => print(rt, b": taken"),
+        ReplyOutcome::PassedOver(number) => numbered(rt, b": passed over by ", number),
+        ReplyOutcome::Refused(number) => numbered(rt, b": refused by ", number),
     }
 }
 
 // The end of a line: whether client and tables came back as they were.
-pub fn print_kept(kept: bool) {
+pub fn print_kept(rt: &impl Print, kept: bool) -> io::Result<()> {
     if kept {
-        print(b", nothing changed\n");
+        print(rt, b", nothing changed\n")
     } else {
-        print(b", changed\n");
+        print(rt, b", changed\n")
     }
 }

@@ -15,17 +15,15 @@ mod season;
 mod server;
 mod tally;
 
-use libc::STDOUT_FILENO;
 use made::{Post, created};
+use std::io;
 use tables::Outcome;
 
-fn main() {
+fn main(rt: HostRuntime) -> io::Result<()> {
     let created = created();
     let outcome = created.outcome;
     match outcome {
-        Outcome::Done => season::run(Post::new(created.client)),
-        Outcome::Refused(_) => {
-            io::write_all(STDOUT_FILENO, b"no post was created\n");
-        }
+        Outcome::Done => season::run(&rt, Post::new(created.client)),
+        Outcome::Refused(_) => rt.write_all(b"no post was created\n"),
     }
 }

@@ -7,6 +7,7 @@ use crate::tally::{Tally, more};
 use client::{PollAnswer, PollOutcome, ReplyOutcome};
 use clock::{Duration, Instant};
 use octets::span::up_to;
+use std::io;
 use std::num::{wrapping_add_u64, wrapping_sub_u32};
 
 // Beside the post: the next call is a poll, or the reply of this type to what was heard, so many milliseconds after the last,
@@ -56,32 +57,31 @@ const MONTHS: [u64; 7] = [
 ];
 
 // The season of a post, to its end.
-pub fn run(created: Post) {
+pub fn run(rt: &impl Print, created: Post) -> io::Result<()> {
     let mut post = created;
     let mut season = Season::new();
     let mut calls = 0;
     while calls < MOST_CALLS {
-        season = season.reach();
+        season = season.reach(rt)?;
         if season.over {
-            season.say(post);
-            return;
+            return season.say(rt, post);
         }
-        let turn = call(post, season);
+        let turn = call(rt, post, season)?;
         post = turn.post;
         season = turn.season;
         calls += 1;
     }
-    print(b"the season does not end\n");
+    print(rt, b"the season does not end\n")
 }
 
-fn call(post: Post, season: Season) -> Turn {
+fn call(rt: &impl Print, post: Post, season: Season) -> io::Result<Turn> {
     if season.reply == 0 {
-        return poll(post, season);
+        return poll(rt, post, season);
     }
-    reply(post, season)
+    reply(rt, post, season)
 }
 
-fn poll(post: Post, season: Season) -> Turn {
+fn poll(rt: &impl Print, post: Post, season: Season) -> io::Result<Turn> {
     let mut buf = [LENT; 600];
     let polled = post
         .client
@@ -90,17 +90,18 @@ fn poll(post: Post, season: Season) -> Turn {
     let tables = polled.tables;
     let rand = polled.rand;
     let outcome = polled.outcome;
-    Turn {
+    let season = season.polled(rt, outcome, &buf)?;
+    Ok(Turn {
         post: Post {
             client,
             tables,
             rand,
         },
-        season: season.polled(outcome, &buf),
-    }
+        season,
+    })
 }
 
-fn reply(post: Post, season: Season) -> Turn {
+fn reply(rt: &impl Print, post: Post, season: Season) -> io::Result<Turn> {
     let reply = Reply::new(season.heard, season.reply, season.naks);
     let octets = reply.octets;
     let processed = post
@@ -110,14 +111,15 @@ fn reply(post: Post, season: Season) -> Turn {
     let tables = processed.tables;
     let rand = post.rand;
     let outcome = processed.outcome;
-    Turn {
+    let season = season.replied(rt, outcome)?;
+    Ok(Turn {
         post: Post {
             client,
             tables,
             rand,
         },
-        season: season.replied(outcome),
-    }
+        season,
+    })
 }
 
 impl Season {
@@ -141,33 +143,33 @@ impl Season {
     }
 
     // On to the next call. A month may be over before it, and with the last one the season.
-    fn reach(mut self) -> Season {
+    fn reach(mut self, rt: &impl Print) -> io::Result<Season> {
         self.elapsed = after(self.elapsed, self.step);
         let months = self.months;
         if 7 <= months {
-            return self;
+            return Ok(self);
         }
         if self.elapsed <= MONTHS[months] {
-            return self.stepped();
+            return Ok(self.stepped());
         }
-        print_month(months);
-        self.in_month(months + 1)
+        print_month(rt, months)?;
+        self.in_month(rt, months + 1)
     }
 
     // The month before this one is over.
-    fn in_month(mut self, months: usize) -> Season {
+    fn in_month(mut self, rt: &impl Print, months: usize) -> io::Result<Season> {
         let tally = self.tally;
         let digest = self.digest;
         let month = tally.month;
         let begun = tally.next_month();
-        print_counts(month, digest.value());
+        print_counts(rt, month, digest.value())?;
         self.tally = begun;
         self.months = months;
         if months == 7 {
             self.over = true;
-            return self;
+            return Ok(self);
         }
-        self.stepped()
+        Ok(self.stepped())
     }
 
     fn stepped(mut self) -> Season {
@@ -179,10 +181,10 @@ impl Season {
         self
     }
 
-    fn polled(self, outcome: PollOutcome, buf: &[u8]) -> Season {
+    fn polled(self, rt: &impl Print, outcome: PollOutcome, buf: &[u8]) -> io::Result<Season> {
         match outcome {
-            PollOutcome::Answered(answer) => self.answered(answer, buf),
-            PollOutcome::Refused(number) => self.refused(b"a poll is refused by ", number),
+            PollOutcome::Answered(answer) => Ok(self.answered(answer, buf)),
+            PollOutcome::Refused(number) => self.refused(rt, b"a poll is refused by ", number),
         }
     }
 
@@ -213,11 +215,11 @@ impl Season {
         self
     }
 
-    fn replied(self, outcome: ReplyOutcome) -> Season {
+    fn replied(self, rt: &impl Print, outcome: ReplyOutcome) -> io::Result<Season> {
         match outcome {
-            ReplyOutcome::Taken { purge } => self.taken(purge),
-            ReplyOutcome::PassedOver(number) => self.processed(number, false),
-            ReplyOutcome::Refused(number) => self.refused(b"a reply is refused by ", number),
+            ReplyOutcome::Taken { purge } => Ok(self.taken(purge)),
+            ReplyOutcome::PassedOver(number) => Ok(self.processed(number, false)),
+            ReplyOutcome::Refused(number) => self.refused(rt, b"a reply is refused by ", number),
         }
     }
 
@@ -241,22 +243,22 @@ impl Season {
         self
     }
 
-    fn refused(mut self, words: &[u8], number: u32) -> Season {
-        numbered(words, number);
-        print(b"\n");
+    fn refused(mut self, rt: &impl Print, words: &[u8], number: u32) -> io::Result<Season> {
+        numbered(rt, words, number)?;
+        print(rt, b"\n")?;
         self.step = 0;
         self.over = true;
-        self
+        Ok(self)
     }
 
     // The end of the season.
-    fn say(self, post: Post) {
+    fn say(self, rt: &impl Print, post: Post) -> io::Result<()> {
         let tally = self.tally;
         let digest = self.digest;
         let whole = tally.whole;
-        print(b"season");
-        print_counts(whole, digest.value());
-        print_post(post, self.now);
+        print(rt, b"season")?;
+        print_counts(rt, whole, digest.value())?;
+        print_post(rt, post, self.now)
     }
 }
 

@@ -1,0 +1,12 @@
+use Rattle.tables.specs.Lookups.{addr_at}
+use Rattle.choice.proofs.Choices.{if_true, if_false}
+use Rattle.std.proofs.Common.{not, sym, refl, ap, ◌∙◌}
+use Rattle.tables.proofs.tables.Tables.addr_at.Goals as goal
+
+pub returns-then-not-is_whole : goal.returns-then-not-is_whole
+unfolding addr_at
+returns-then-not-is_whole c = if_true _ (ap not (sym c.is_whole.ensures ∙ c.if-not-is_whole.true)) refl
+
+pub returns : goal.returns
+unfolding addr_at
+returns c = if_false _ (ap not (sym c.is_whole.ensures ∙ c.if-not-is_whole.false)) c.at.ensures
