@@ -69,7 +69,7 @@ impl Random {
     }
 
     /// Where a run's server sends from, and what it calls itself: the same in a third of the runs, or behind a relay; one of
-    /// ten or so is not unicast.
+    /// ten or so is not unicast. Of the narrow choice the same two always.
     pub fn server(&mut self) -> (Address, Address) {
         if self.narrow {
             return (SERVERS[0], [10, 0, 0, 1]);
