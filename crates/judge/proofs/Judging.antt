@@ -31,20 +31,20 @@ module _ {m : MaybeNumber} (number : ℕ) (next : ℕ → Verdict) where
   needing_some e f = rw e f
 
 -- the header
-module _ (who : Recipient) (source : ℕ) (reply : List ℕ) {k : Checked} (e : k ≡ header_check reply) where
-  pub header_passed_over : {n : ℕ} → k ≡ check.PassedOver n → PassedOver n ≡ judged who source reply
+module _ (who : Recipient) (source : ℕ) (reply : List ℕ) where
+  pub header_passed_over : {n : ℕ} → check.PassedOver n ≡ header_check reply → PassedOver n ≡ judged who source reply
   unfolding judged
-  header_passed_over f = rw (sym e, f) refl
+  header_passed_over e = rw (sym e) refl
 
-  pub header_passes : {v : Verdict} → k ≡ check.Passes → v ≡ needing (message_type reply) 22 (judged_sender who source reply) → v ≡ judged who source reply
+  pub header_passes : {v : Verdict} → check.Passes ≡ header_check reply → v ≡ needing (message_type reply) 22 (judged_sender who source reply) → v ≡ judged who source reply
   unfolding judged
-  header_passes f h = rw (sym e, f) h
+  header_passes e h = rw (sym e) h
 
 -- what a reply is to the state
-pub judged_as_lem : (who : Recipient) (source : ℕ) (reply : List ℕ) (kind identifier : ℕ) (what : Awaited) {a : Awaited} {v : Verdict} → a ≡ awaited who.state kind who.ignoring → a ≡ what
+pub judged_as_lem : (who : Recipient) (source : ℕ) (reply : List ℕ) (kind identifier : ℕ) (what : Awaited) {v : Verdict} → what ≡ awaited who.state kind who.ignoring
     → v ≡ judged_as what (record { address = source; identifier = identifier }) reply → v ≡ judged_kind who source reply kind identifier
 unfolding judged_kind
-judged_as_lem who source reply kind identifier what e f h = rw (sym e, f) h
+judged_as_lem who source reply kind identifier what e h = rw (sym e) h
 
 -- what holds of both outcomes of a value that has to be there
 pub needing_cases : (P : Verdict → Type 0) {m : MaybeNumber} (number : ℕ) (next : ℕ → Verdict) → P (PassedOver number) → ((n : ℕ) → m ≡ Some n → P (next n)) → P (needing m number next)

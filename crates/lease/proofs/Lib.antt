@@ -1,4 +1,3 @@
-pub mod Made
 pub mod Numbers
 pub mod Order
 pub mod Times

@@ -1,13 +1,13 @@
 -- Lists of numbers that are compared place by place. Assumes nothing.
 use Prim.Native.Nat.{ℕ, zero, suc, ◌<◌, ◌≤◌, min}
 use mathlib.Core.Path.{◌≡◌, refl, sym, ap, ◌∙◌}
-use mathlib.Core.Bool.{Bool, true, false}
+use mathlib.Core.Bool.{true, false}
 use mathlib.Core.List.{List, [], ◌∷◌}
 use native.Mathlib.Omega.{arith}
 use native.Mathlib.Nat.{not-suc-le-zero, le_of_suc-le-suc}
 use lib.ListN.{length, take, get_or, length-take}
 use lib.Dec.{eqb}
-use borrow.Author.Tests.{eq-eqb, ne_eqb, eqb-true, eqb-false}
+use borrow.Author.Tests.{eq-eqb, ne_eqb}
 use Rattle.choice.proofs.Choices.{if_true, if_false, if_cases}
 use Rattle.octets.specs.Runs.{same_bytes}
 use Rattle.octets.proofs.Runs.{same_lengths, take_most}
@@ -30,14 +30,6 @@ same_all (suc n) [] y p q e = absurd (not-suc-le-zero p)
 same_all (suc n) (a ∷ x) [] p q e = absurd (not-suc-le-zero q)
 same_all (suc n) (a ∷ x) (b ∷ y) p q e =
     if_true _ (eq-eqb a b (e 0 (omega arith))) (same_all n x y (le_of_suc-le-suc p) (le_of_suc-le-suc q) (λ i h. e (suc i) (omega arith)))
-
--- one place more
-pub and_next : (x y : List ℕ) (i : ℕ) → ((j : ℕ) → j < i → get_or x j 0 ≡ get_or y j 0) → get_or x i 0 ≡ get_or y i 0 → (j : ℕ) → j < suc i → get_or x j 0 ≡ get_or y j 0
-and_next x y i e f j h = step (eqb j i) refl
-  where
-    step : (b : Bool) → eqb j i ≡ b → get_or x j 0 ≡ get_or y j 0
-    step true t = rw (eqb-true j i t) f
-    step false t = e j (omega (arith, eqb-false j i t))
 
 -- lists of as many places, with so many of them in use
 module _ (n m size : ℕ) (x y : List ℕ) (e : length x ≡ size) (f : length y ≡ size) where

@@ -9,7 +9,6 @@ use Rattle.wire.specs.Readings.{seconds_of}
 use Rattle.machine.specs.Times.{given, lease_time, row_of, times_of}
 use Rattle.machine.specs.States.{renewing}
 use Rattle.machine.specs.declared.state.ClientState.{ClientState}
-use Rattle.machine.specs.declared.state.ClientState.TheVariants.{Renewing}
 use Rattle.machine.specs.declared.times.Row.{Row}
 use Rattle.settings.specs.Settings.{maximum_of}
 use Rattle.settings.specs.declared.settings.Settings.{Settings}

@@ -53,7 +53,7 @@ fn put_datagram(
     extra: &[u8],
 ) -> usize
     requires short { Short m name.now list.now extra.now }
-    requires n_value { (n ≡ length (message m name.now list.now extra.now)) × (8 + n ≤ length buf.old) }
+    requires size { (n ≡ length (message m name.now list.now extra.now)) × (8 + n ≤ length buf.old) }
     ensures { Wrote 0 (datagram ends offload (message m name.now list.now extra.now)) buf.old result buf.new }
 {
     let n1 = put_udp(buf, 8 + n);

@@ -146,7 +146,7 @@ pub(crate) fn put_message(
     extra: &[u8],
 ) -> usize
     requires short { Short m name.now list.now extra.now }
-    requires extra_in_bounds { at + length (message m name.now list.now extra.now) ≤ length buf.old }
+    requires room { at + length (message m name.now list.now extra.now) ≤ length buf.old }
     ensures { Wrote at (message m name.now list.now extra.now) buf.old result buf.new }
 {
     let hardware = m.hardware;

@@ -65,8 +65,8 @@ fn deferred(start: u16, s: &[u8]) -> u16
 
 // The end of that: sum is of the words before t, the last 3 octets at most.
 fn with_word(start: u16, sum: u32, t: &[u8]) -> u16
-    requires t_bound { sum + 65535 * length t.now ≤ 4294901760 }
-    requires t_len_bound { length t.now < 4 }
+    requires sum_in_range { sum + 65535 * length t.now ≤ 4294901760 }
+    requires few_left { length t.now < 4 }
     ensures { result ≡ ones_sum (carried_in (start + 256 * sum)) t.now }
 {
     if 2 <= t.len() {
@@ -77,8 +77,8 @@ fn with_word(start: u16, sum: u32, t: &[u8]) -> u16
 
 // The same where t is at most one octet, the high one of a word.
 fn with_octet(start: u16, sum: u32, t: &[u8]) -> u16
-    requires t_bound { sum + 65535 * length t.now ≤ 4294901760 }
-    requires t_len_bound { length t.now < 2 }
+    requires sum_in_range { sum + 65535 * length t.now ≤ 4294901760 }
+    requires few_left { length t.now < 2 }
     ensures { result ≡ ones_sum (carried_in (start + 256 * sum)) t.now }
 {
     if t.len() == 1 {

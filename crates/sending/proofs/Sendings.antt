@@ -1,6 +1,6 @@
 -- A message that is due: its id, its length, and what its writer answers. Assumes nothing.
 use Prim.Native.Nat.{ℕ, ◌+◌, ◌-◌, ◌≤◌, ◌<◌}
-use mathlib.Core.Path.{◌≡◌, refl, sym, ap, ◌∙◌}
+use mathlib.Core.Path.{◌≡◌, refl, ap, ◌∙◌}
 use mathlib.Core.Bool.{true, false}
 use mathlib.Core.List.{List}
 use native.Mathlib.Omega.{arith}
@@ -15,7 +15,6 @@ use Rattle.octets.specs.declared.number.MaybeNumber.{MaybeNumber}
 use Rattle.octets.specs.declared.number.MaybeNumber.TheVariants.{None, Some}
 use Rattle.message.specs.Messages.{message, address_option}
 use Rattle.message.specs.Written.{fitted, leaves, written, buffer_after}
-use Rattle.message.specs.declared.message.Answer.{Answer}
 use Rattle.message.specs.declared.message.Answer.TheVariants.{Length, Refused}
 use Rattle.message.proofs.Messages.{address_most}
 use Rattle.message.proofs.Datagrams.{datagram_length}

@@ -1,5 +1,5 @@
 -- A message that is due (document 01, "Polling"): its transaction id, its fields, where it goes from and to, and the datagram.
-use Rattle.std.specs.Prelude.{ℕ, Bool, true, false, List, length}
+use Rattle.std.specs.Prelude.{ℕ, Bool, true, false, List}
 use Rattle.choice.specs.Choice.{when◌then◌else◌}
 use Rattle.clock.specs.Generator.{drawn32}
 use Rattle.clock.specs.declared.rand.Rand.{Rand}

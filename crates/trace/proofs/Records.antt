@@ -77,9 +77,6 @@ pub record Walked (line form t f kept : List ℕ) (count place : ℕ) : Type 0 w
   pub there : place + length t ≡ length line
   pub whole : record_of form line ≡ walk (parts_of f) values place t
 
-pub walked_start : (line form : List ℕ) → Walked line form line form (padded most_values []) 0 0
-walked_start line form = record { values = []; holds = refl; counted = refl; room = omega arith; there = omega arith; whole = refl }
-
 module _ {line form t f kept : List ℕ} {count place : ℕ} (w : Walked line form t f kept count place) where
   onward : {n : ℕ} {r : Taken} → Step t f n r → record_of form line ≡ after (parts_of (drop n f)) w.values place t r
   onward {n} {r} s =

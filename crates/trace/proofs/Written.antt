@@ -1,12 +1,12 @@
 -- Laws of what is written: a number's digits, and a line along its form. Assumes nothing.
 use Prim.Native.Nat.{ℕ, zero, suc, ◌+◌, ◌-◌, ◌*◌, ◌/◌, ◌%◌, ◌^◌, ◌≤◌, ◌<◌, min}
 use mathlib.Core.Path.{◌≡◌, refl, sym, ap, ◌∙◌}
-use mathlib.Core.List.{List, [], ◌∷◌, ◌++◌, append-nil, append_assoc}
+use mathlib.Core.List.{List, [], ◌∷◌, ◌++◌, append_assoc}
 use native.Mathlib.Omega.{arith}
 use native.Mathlib.Decide.{dec_le}
 use native.Mathlib.Nat.{pow-suc}
 use lib.ListN.{length, take, drop, get_or, set, length-drop, length-set, drop_of_length-le}
-use lib.Seq.{take_all, take-nil}
+use lib.Seq.{take_all}
 use lib.Dec.{eqb}
 use borrow.Author.Tests.{eq-eqb, ne_eqb, le-ltb, lt-ltb}
 use Rattle.choice.specs.Choice.{when◌then◌else◌}
@@ -45,14 +45,6 @@ drop_set [] i v h = absurd (omega arith)
 drop_set (x ∷ l) zero v h = refl
 drop_set (x ∷ l) (suc i) v h = drop_set l i v (omega arith)
 
-pub laid_none : (n : ℕ) (chars : List ℕ) → n < 18446744073709551616 → length chars ≡ 20 → Laid n chars 19 n
-laid_none n chars h e = record {
-  size = e;
-  inside = omega arith;
-  few = let g : n < 100000000000000000000 = omega arith in g;
-  text = sym (ap (λ (l : List ℕ). decimal_text n ++ l) (drop_of_length-le chars {i = 20} (omega arith)) ∙ append-nil (decimal_text n));
-}
-
 -- a number of two digits or more has a place for the next
 pub laid_room : {n i rest : ℕ} {chars : List ℕ} → Laid n chars i rest → 10 ≤ rest → 0 < i
 laid_room {i = zero} {rest = rest} l h = let g : rest < 10 = l.few in absurd (omega arith)
@@ -85,10 +77,6 @@ laid_last {n} {i} {rest} {chars} l h =
     one_digit : (i : ℕ) → chars_of (decimal_digits i rest) ++ drop (suc i) chars ≡ (48 + rest) ∷ drop (suc i) chars
     one_digit zero = simp (low_char rest h)
     one_digit (suc i) = simp (lt-ltb rest 10 h, low_char rest h)
-
--- ---- octets past the source's end
-pub some_past : (place count : ℕ) (source : List ℕ) → length source ≤ place → take count (drop place source) ≡ []
-some_past place count source h = rw (drop_of_length-le source h) (take-nil count)
 
 -- ---- the first part of a form
 pub letter_width : (f : List ℕ) → (get_or f 0 0 ≡ percent → ⊥) → 0 ≡ part_width (head_part f)

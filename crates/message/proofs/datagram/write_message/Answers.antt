@@ -27,7 +27,7 @@ returns-then-buf-n c = let a = c.args in
 pub put_datagram-requires : goal.put_datagram-requires
 put_datagram-requires c = let a = c.args in
     let s = short a.m a.name.now a.list.now a.extra.now (sym c.in-Length.ensures) in
-    record { short = s.0; n_value = (s.1, omega arith) }
+    record { short = s.0; size = (s.1, omega arith) }
 
 pub returns-else-buf-n : goal.returns-else-buf-n
 returns-else-buf-n c = let a = c.args in

@@ -95,7 +95,7 @@ pub returns-in-Stopped : goal.returns-in-Stopped
 returns-in-Stopped c = c.misfit-in-Stopped.ensures ∙ sym (walked_stop c.loop-f.invariant (stop_step (goal.at.returns-in-Stopped c).In-Stopped))
 
 pub returns-then-t-gt0 : goal.returns-then-t-gt0
-returns-then-t-gt0 c = c.misfit-then-t-gt0.ensures ∙ sym (walked_more c.loop-f.invariant c.loop-f-test.false c.if-t-gt0.true)
+returns-then-t-gt0 c = c.misfit-then-t-gt0.ensures ∙ sym (walked_more c.loop-f.invariant c.loop-f-test.false (omega arith))
 
 pub returns : goal.returns
-returns c = sym (walked_end c.loop-f.invariant c.loop-f-test.false c.if-t-gt0.false)
+returns c = sym (walked_end c.loop-f.invariant c.loop-f-test.false (omega arith))
