@@ -149,14 +149,11 @@ class Post:
         self.loses = lambda destination: False
         self.on_wire = 0
         settings = dict(medium=0, mtu=1500, hardware=hardware.hex(), offload=0, name=b'pitch-07'.hex(), listed=0, list='',
-                        extra='')
-        site = dict(capped=0, maximum=0, ignore_naks=0)
-        for key, value in changed.items():
-            (site if key in site else settings)[key] = value
-        self.maximum = site['maximum']
+                        extra='', capped=0, maximum=0, ignore_naks=0)
+        settings.update(changed)
+        self.maximum = settings['maximum']
         replay.tell(f'start moment={moment} generator={generator}')
-        for word, fields in (('settings', settings), ('site', site)):
-            replay.tell(' '.join([word, *(f'{key}={value}' for key, value in fields.items())]))
+        replay.tell('settings ' + ' '.join(f'{key}={value}' for key, value in settings.items()))
         self.told, self.due = clock(), float('inf')
         self.keep(replay.ask('new'), 'created')
         self.poll()

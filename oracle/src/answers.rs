@@ -6,7 +6,7 @@ use crate::lines::Lines;
 use crate::message;
 use crate::plain::*;
 use crate::read::Fields;
-use crate::record::{Answer, Call, SETTINGS, SITE};
+use crate::record::{Answer, Call};
 use crate::season::UDP;
 
 /// A call with its answer, and the post as it stood then.
@@ -98,9 +98,7 @@ impl<L: BufRead, A: BufRead> Both<L, A> {
             return Err(format!("the moment is {moment}, and by the steps it is {}", self.moment));
         }
         if let Answer::Created { number } = answer {
-            for form in [SETTINGS, SITE] {
-                self.fields.told(form, wanted(&mut self.answers)?)?;
-            }
+            self.fields.call(wanted(&mut self.answers)?).map(|_| ())?;
             if number != 0 {
                 return Err(format!("the settings are refused by {number}: no post to draw"));
             }

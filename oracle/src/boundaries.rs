@@ -80,12 +80,8 @@ pub struct List {
 
 impl List {
     fn at(&mut self, settings: Settings, state: State) {
-        self.at_site(settings, Site::default(), state);
-    }
-
-    fn at_site(&mut self, settings: Settings, site: Site, state: State) {
         self.calls.push(Call::Start { moment: NOW, generator: 36_490 });
-        self.calls.extend(Call::set(settings, site));
+        self.calls.push(Call::Settings(settings));
         self.calls.push(Call::State { id: ID, state });
         if state.renewing() {
             self.calls.push(Call::Lease(Box::new(lease(&plain_ack()))));
@@ -97,35 +93,35 @@ impl List {
     }
 
     /// The options as a reply in a state.
-    fn on(&mut self, site: Site, state: State, options: &[u8]) {
-        self.at_site(standard(), site, state);
+    fn on(&mut self, settings: Settings, state: State, options: &[u8]) {
+        self.at(settings, state);
         self.reply(SERVER, message::reply(ID, &HARDWARE, YOURS, options));
     }
 
     fn ack(&mut self, more: &[u8]) {
-        self.on(Site::default(), requesting(), &[plain_ack(), more.to_vec(), vec![255]].concat());
+        self.on(standard(), requesting(), &[plain_ack(), more.to_vec(), vec![255]].concat());
     }
 }
 
 /// Creation, round each limit and with several things wrong at once.
 pub fn creations() -> Vec<Call> {
-    let mut list = vec![(standard(), Site::default())];
-    let mut with = |change: &dyn Fn(&mut Settings, &mut Site)| {
-        let (mut settings, mut site) = (standard(), Site::default());
-        change(&mut settings, &mut site);
-        list.push((settings, site));
+    let mut list = vec![standard()];
+    let mut with = |change: &dyn Fn(&mut Settings)| {
+        let mut settings = standard();
+        change(&mut settings);
+        list.push(settings);
     };
     for medium in [1, 2, 255] {
-        with(&|s, _| s.medium = medium);
+        with(&|s| s.medium = medium);
     }
     for mtu in [0, 1, 68, 575, 576, 577, 1499, 1500, 1501, 65535] {
-        with(&|s, _| s.mtu = mtu);
+        with(&|s| s.mtu = mtu);
     }
     for length in [1, 62, 63, 64, 255] {
-        with(&|s, _| s.name = (0..length).map(|i| i as u8 ^ 0x80).collect());
+        with(&|s| s.name = (0..length).map(|i| i as u8 ^ 0x80).collect());
     }
     for length in [0, 1, 63, 64, 65, 255] {
-        with(&|s, _| s.list = Some((0..length).map(|i| i as u8).collect()));
+        with(&|s| s.list = Some((0..length).map(|i| i as u8).collect()));
     }
     let long = |n: usize| item(43, &vec![9; n]);
     let extras = [
@@ -145,27 +141,27 @@ pub fn creations() -> Vec<Call> {
         [long(100), long(152)].concat(),
     ];
     for extra in &extras {
-        with(&|s, _| s.extra = extra.clone());
+        with(&|s| s.extra = extra.clone());
     }
     for maximum in [0, 1, 2, 7, 8, LONGEST - 1, LONGEST, LONGEST + 1, u32::MAX] {
-        with(&|_, site| site.maximum = Some(maximum));
+        with(&|s| s.maximum = Some(maximum));
     }
-    with(&|s, _| s.offload = true);
-    with(&|_, site| site.ignore_naks = true);
+    with(&|s| s.offload = true);
+    with(&|s| s.ignore_naks = true);
     let full = |s: &mut Settings| {
         s.name = vec![b'n'; 63];
         s.list = Some(vec![3; 64]);
         s.extra = long(253);
     };
     for mtu in [576, 682, 683, 684, 1500] {
-        with(&|s, _| {
+        with(&|s| {
             full(s);
             s.mtu = mtu;
         });
     }
     // At MTU 576 a message has room for 548 bytes; with name and list full, 148 are left for the extra options.
     for extra in [145, 146, 147] {
-        with(&|s, _| {
+        with(&|s| {
             full(s);
             s.mtu = 576;
             s.extra = long(extra);
@@ -173,7 +169,7 @@ pub fn creations() -> Vec<Call> {
     }
     // The first number counts.
     for wrong in 1..7 {
-        with(&|s, site| {
+        with(&|s| {
             full(s);
             s.mtu = 576;
             if wrong <= 1 {
@@ -191,13 +187,13 @@ pub fn creations() -> Vec<Call> {
             if wrong <= 5 {
                 s.extra = vec![12, 2, 65];
             }
-            site.maximum = Some(LONGEST + 1);
+            s.maximum = Some(LONGEST + 1);
         });
     }
     let mut calls = vec![];
-    for (settings, site) in list {
+    for settings in list {
         calls.push(Call::Start { moment: NOW, generator: 1 });
-        calls.extend(Call::set(settings, site));
+        calls.push(Call::Settings(settings));
         calls.push(Call::New);
     }
     calls
@@ -226,9 +222,9 @@ pub fn replies() -> Vec<Call> {
     for state in [State::Init, discovering(), requesting(), renewing()] {
         for kind in [0, 1, OFFER, 3, 4, ACK, NAK, 7, 8, 255] {
             let options = [item(53, &[kind]), plain_ack()[3..].to_vec(), end.clone()].concat();
-            list.on(Site::default(), state, &options);
+            list.on(standard(), state, &options);
             if kind == NAK {
-                list.on(Site { ignore_naks: true, ..Site::default() }, state, &options);
+                list.on(Settings { ignore_naks: true, ..standard() }, state, &options);
             }
         }
     }
@@ -238,35 +234,35 @@ pub fn replies() -> Vec<Call> {
     for code in [53, 54, 1, 51, 58, 59, 3, 6] {
         let others: Vec<u8> = known.iter().filter(|k| k.0 != code).flat_map(|k| item(k.0, &k.1)).collect();
         let good = known.iter().find(|k| k.0 == code).map_or(data[4..].to_vec(), |k| k.1.clone());
-        list.on(Site::default(), requesting(), &[others.clone(), end.clone()].concat());
+        list.on(standard(), requesting(), &[others.clone(), end.clone()].concat());
         for length in [0, 1, 2, 3, 4, 5, 7, 8, 12, 13, 16] {
             let mut bytes = good.clone();
             bytes.resize(length, 5);
-            list.on(Site::default(), requesting(), &[others.clone(), item(code, &bytes), end.clone()].concat());
+            list.on(standard(), requesting(), &[others.clone(), item(code, &bytes), end.clone()].concat());
         }
         let (short, long) = (item(code, &good[..good.len() - 1]), item(code, &good));
         for pair in [[short.clone(), long.clone()], [long, short]] {
-            list.on(Site::default(), requesting(), &[pair.concat(), others.clone(), end.clone()].concat());
+            list.on(standard(), requesting(), &[pair.concat(), others.clone(), end.clone()].concat());
         }
     }
     // Padding, and options behind the end.
-    list.on(Site::default(), requesting(), &[vec![0; 5], plain_ack(), vec![0, 0], seconds(51, 9), vec![0]].concat());
-    list.on(Site::default(), requesting(), &[plain_ack(), end.clone(), seconds(51, 9)].concat());
-    list.on(Site::default(), requesting(), &[end.clone(), plain_ack()].concat());
-    list.on(Site::default(), requesting(), &[plain_ack(), vec![51]].concat());
-    list.on(Site::default(), requesting(), &[plain_ack(), vec![102, 0]].concat());
-    list.on(Site::default(), requesting(), &[plain_ack(), vec![51, 4, 0, 0, 0]].concat());
+    list.on(standard(), requesting(), &[vec![0; 5], plain_ack(), vec![0, 0], seconds(51, 9), vec![0]].concat());
+    list.on(standard(), requesting(), &[plain_ack(), end.clone(), seconds(51, 9)].concat());
+    list.on(standard(), requesting(), &[end.clone(), plain_ack()].concat());
+    list.on(standard(), requesting(), &[plain_ack(), vec![51]].concat());
+    list.on(standard(), requesting(), &[plain_ack(), vec![102, 0]].concat());
+    list.on(standard(), requesting(), &[plain_ack(), vec![51, 4, 0, 0, 0]].concat());
     // Masks.
     for ones in 0..=32u32 {
         let mask = u32::MAX.checked_shl(32 - ones).unwrap_or(0);
         list.on(
-            Site::default(),
+            standard(),
             requesting(),
             &[item(53, &[ACK]), item(54, &IDENTIFIER), item(1, &mask.to_be_bytes()), end.clone()].concat(),
         );
     }
     for mask in [[255, 0, 255, 0], [127, 255, 255, 255], [255, 255, 255, 253], [0, 0, 0, 1], [255, 255, 254, 255]] {
-        list.on(Site::default(), requesting(), &[item(53, &[ACK]), item(54, &IDENTIFIER), item(1, &mask), end.clone()].concat());
+        list.on(standard(), requesting(), &[item(53, &[ACK]), item(54, &IDENTIFIER), item(1, &mask), end.clone()].concat());
     }
     // Addresses that are unicast and that are not.
     for address in ADDRESSES {
@@ -296,7 +292,7 @@ pub fn replies() -> Vec<Call> {
     ] {
         for maximum in [None, Some(2), Some(8), Some(1003), Some(LONGEST)] {
             let more = l.map_or(vec![], |l| seconds(51, l));
-            list.on(Site { maximum, ..Site::default() }, requesting(), &[plain_ack(), more, end.clone()].concat());
+            list.on(Settings { maximum, ..standard() }, requesting(), &[plain_ack(), more, end.clone()].concat());
         }
     }
     for l in [3600u32, 7, 1_073_742] {
@@ -362,9 +358,9 @@ pub fn replies() -> Vec<Call> {
     // An ACK that differs from the lease in a stored byte alone, and one that is equal up to its identifier's length.
     let mut options = plain_ack();
     options[8] ^= 1;
-    list.on(Site::default(), renewing(), &[options, end.clone()].concat());
+    list.on(standard(), renewing(), &[options, end.clone()].concat());
     list.on(
-        Site::default(),
+        standard(),
         renewing(),
         &[item(53, &[ACK]), item(54, &[10, 0, 0, 1, 0]), plain_ack()[9..].to_vec(), end.clone()].concat(),
     );

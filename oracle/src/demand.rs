@@ -72,7 +72,7 @@ impl Demand {
     fn accepted(&mut self, reply: &[u8], before: &Tables, post: &Post) -> Result<(), String> {
         match message::message_type(reply) {
             Some(message::ACK) => {
-                let maximum = post.plain.client.site.maximum;
+                let maximum = post.plain.client.settings.maximum;
                 let ack = message::ack(reply, maximum);
                 // Document 01's own claim on the order of the moments.
                 let (renew, rebind, l) = message::times(reply, maximum);

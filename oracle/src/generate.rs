@@ -5,15 +5,22 @@ use crate::model;
 use crate::plain::*;
 use crate::post::Post;
 use crate::record::{Answer, Call};
-use crate::values::{ADDRESSES, ODD};
+use crate::values::ADDRESSES;
 
-/// SplitMix64.
-pub struct Random(pub u64);
+/// SplitMix64, and whether it keeps to the fewer values of the recorded lists: what the wider choice alone needs is not drawn then.
+#[derive(Clone, Copy)]
+pub struct Random {
+    pub state: u64,
+    pub narrow: bool,
+}
 
 impl Random {
+    pub fn new(state: u64) -> Self {
+        Random { state, narrow: false }
+    }
     pub fn next(&mut self) -> u64 {
-        self.0 = self.0.wrapping_add(0x9e37_79b9_7f4a_7c15);
-        let z = (self.0 ^ self.0 >> 30).wrapping_mul(0xbf58_476d_1ce4_e5b9);
+        self.state = self.state.wrapping_add(0x9e37_79b9_7f4a_7c15);
+        let z = (self.state ^ self.state >> 30).wrapping_mul(0xbf58_476d_1ce4_e5b9);
         let z = (z ^ z >> 27).wrapping_mul(0x94d0_49bb_1331_11eb);
         z ^ z >> 31
     }
@@ -28,6 +35,22 @@ impl Random {
     }
     pub fn pick<T: Copy>(&mut self, from: &[T]) -> T {
         from[self.below(from.len() as u64) as usize]
+    }
+    /// One of them; of the narrow choice one of the first `few`.
+    pub fn among<T: Copy>(&mut self, few: usize, from: &[T]) -> T {
+        self.pick(if self.narrow { &from[..few] } else { from })
+    }
+    /// One of them; of the narrow choice the first.
+    pub fn wider<T: Copy>(&mut self, from: &[T]) -> T {
+        if self.narrow { from[0] } else { self.pick(from) }
+    }
+    /// Yes so many times of a hundred; of the narrow choice never.
+    pub fn wide(&mut self, p: u64) -> bool {
+        !self.narrow && self.percent(p)
+    }
+    /// Any octet; of the narrow choice 0.
+    pub fn wide_byte(&mut self) -> u8 {
+        if self.narrow { 0 } else { self.byte() }
     }
     pub fn byte(&mut self) -> u8 {
         self.next() as u8
@@ -83,7 +106,7 @@ pub struct Generator {
 impl Generator {
     pub fn new(seed: u64, kind: Kind) -> Self {
         Generator {
-            random: Random(seed),
+            random: Random::new(seed),
             kind,
             queue: Default::default(),
             left: 0,
@@ -158,9 +181,9 @@ impl Generator {
         self.sober = self.random.percent(50);
         (self.source, self.identifier) = self.random.server();
         let r = &mut self.random;
-        self.your = match r.below(10) {
-            0..=5 => ADDRESSES[0],
-            6 => r.any_address(),
+        self.your = match r.wider(&[0, 0, 0, 0, 0, 0, 1, 2, 2, 2]) {
+            0 => ADDRESSES[0],
+            1 => r.any_address(),
             _ => r.pick(&ADDRESSES),
         };
         let moment = match r.below(6) {
@@ -170,19 +193,19 @@ impl Generator {
         };
         // The last two draw an id of 0, and of all ones.
         let ends = [0, 0, u64::MAX, model::before_draw(0), model::before_draw(u64::MAX)];
-        let generator = if r.percent(20) { r.pick(&ends) } else { r.next() };
+        let generator = if r.percent(if r.narrow { 10 } else { 20 }) { r.wider(&ends) } else { r.next() };
         self.queue.push_back(Call::Start { moment, generator });
         match self.kind {
             Kind::Runs => {
-                let (settings, site) = self.settings();
-                self.queue.extend(Call::set(settings, site));
+                let settings = self.settings();
+                self.queue.push_back(Call::Settings(settings));
                 self.manual_tables();
                 self.queue.push_back(Call::New);
-                self.left = 5 + self.random.below(if self.random.0 & 7 == 0 { 400 } else { 60 });
+                self.left = 5 + self.random.below(if self.random.state & 7 == 0 { 400 } else { 60 });
             }
             Kind::States => {
-                let (settings, site) = self.good_settings();
-                self.queue.extend(Call::set(settings, site));
+                let settings = self.good_settings();
+                self.queue.push_back(Call::Settings(settings));
                 self.state(moment);
                 self.any_tables();
                 self.left = 1 + self.random.below(3);
@@ -200,9 +223,9 @@ impl Generator {
 
     // Settings.
 
-    fn good_settings(&mut self) -> (Settings, Site) {
+    fn good_settings(&mut self) -> Settings {
         let r = &mut self.random;
-        let (mut s, mut site) = (Settings::zero(), Site::default());
+        let mut s = Settings::zero();
         s.mtu = match r.below(4) {
             0 => r.pick(&[576, 577, 1500, 1499]),
             1 => 576 + r.below(925) as u16,
@@ -210,7 +233,7 @@ impl Generator {
         };
         s.hardware = r.hardware();
         s.offload = r.percent(20);
-        if r.percent(60) {
+        if r.percent(if r.narrow { 40 } else { 60 }) {
             s.name = r.name();
         }
         if r.percent(40) {
@@ -222,14 +245,14 @@ impl Generator {
         }
         let r = &mut self.random;
         if r.percent(35) {
-            site.maximum = Some(match r.below(3) {
+            s.maximum = Some(match r.below(3) {
                 0 => r.pick(&[0, 1, 2, 3, 7, 8, 9, 1000, 1003, 60_000, 100_000, 200_001, LONGEST - 1, LONGEST]),
                 1 => r.any_size().min(LONGEST),
                 _ => 1000 * r.below(100_000) as u32,
             });
         }
-        site.ignore_naks = r.percent(25);
-        let full = r.percent(4);
+        s.ignore_naks = r.percent(25);
+        let full = r.wide(4);
         if full {
             s.extra = [vec![43, 253], r.bytes(253)].concat();
             let length = r.upto(64) as usize;
@@ -237,25 +260,25 @@ impl Generator {
         }
         // The least MTU for the longest message, or one more.
         let least = (s.datagram(true) as u16 + 20).max(LEAST_MTU);
-        if full || r.percent(5) {
+        if full || r.wide(5) {
             s.mtu = least + r.below(2) as u16;
         } else if s.mtu < least {
             s.mtu = MOST_MTU;
         }
-        (s, site)
+        s
     }
 
-    fn settings(&mut self) -> (Settings, Site) {
-        let (mut s, mut site) = self.good_settings();
+    fn settings(&mut self) -> Settings {
+        let mut s = self.good_settings();
         let r = &mut self.random;
         if r.percent(6) {
             match r.below(7) {
-                0 => s.medium = r.pick(&[1, 2, 255]),
+                0 => s.medium = r.wider(&[1, 2, 255]),
                 1 => s.mtu = r.pick(&[0, 575, 1501, 65535]),
                 2 => s.name = r.bytes(64),
                 3 => s.list = Some(r.bytes(65)),
                 4 => s.extra = if r.percent(50) { vec![12, 2, 65] } else { vec![7; 256] },
-                5 => site.maximum = Some(r.pick(&[LONGEST + 1, u32::MAX])),
+                5 => s.maximum = Some(r.pick(&[LONGEST + 1, u32::MAX])),
                 _ => {
                     s.mtu = r.pick(&[576, 682, 683]);
                     s.name = r.bytes(63);
@@ -265,7 +288,7 @@ impl Generator {
                 }
             }
         }
-        (s, site)
+        s
     }
 
     /// Whole items of at most that many bytes together.
@@ -274,8 +297,8 @@ impl Generator {
         while items.len() + 2 <= room && (items.is_empty() || self.random.percent(70)) {
             let most = (room - items.len() - 2).min(255);
             let length = if self.random.percent(30) { most } else { self.random.upto(most.min(12) as u64) as usize };
-            let any = self.random.byte();
-            items.push(self.random.pick(&[0, 1, 3, 6, 12, 43, 51, 53, 54, 60, 77, 100, 255, any, any]));
+            let any = self.random.wide_byte();
+            items.push(self.random.among(13, &[0, 1, 3, 6, 12, 43, 51, 53, 54, 60, 77, 100, 255, any, any]));
             items.push(length as u8);
             items.extend(self.random.bytes(length));
         }
@@ -299,7 +322,11 @@ impl Generator {
 
     fn tables(&mut self, addresses: u8, routes: u8, dhcp: bool) {
         let r = &mut self.random;
-        let generation = if r.percent(50) { r.pick(&[u32::MAX, u32::MAX - 1, u32::MAX - 2]) } else { r.word() };
+        let generation = match r.wider(&[0, 1]) {
+            0 if r.narrow => r.pick(&[0, 0, 1, 77, u32::MAX, u32::MAX - 1]),
+            0 => r.word(),
+            _ => r.pick(&[u32::MAX, u32::MAX - 1, u32::MAX - 2]),
+        };
         self.queue.push_back(Call::Tables { generation, addresses, routes });
         for _ in 0..addresses.min(4) {
             let (address, prefix) = self.random.cidr();
@@ -308,7 +335,7 @@ impl Generator {
         }
         for _ in 0..routes.min(4) {
             let (network, prefix) = self.random.cidr();
-            let router = self.random.address();
+            let router = self.random.router(10);
             let dhcp = dhcp && self.random.percent(40);
             self.queue.push_back(Call::Route(RouteEntry { network, prefix, router, dhcp }));
         }
@@ -320,9 +347,10 @@ impl Generator {
         let tables = &post.plain.tables;
         let r = &mut self.random;
         let (mut address, mut prefix) = r.cidr();
-        let mut router = r.address();
+        let odd = if r.percent(8) { Some(r.among(3, &[32, 33, 255, 31])) } else { None };
+        let mut router = r.router(15);
         let which = r.below(4);
-        if r.percent(50) {
+        if r.wide(50) {
             if which == 1 && !tables.address_entries().is_empty() {
                 let entry = r.pick(tables.address_entries());
                 (address, prefix) = (entry.address, entry.prefix);
@@ -331,9 +359,7 @@ impl Generator {
                 (address, prefix, router) = (entry.network, entry.prefix, entry.router);
             }
         }
-        if r.percent(8) {
-            prefix = r.pick(&[31, 32, 33, 255]);
-        }
+        let prefix = odd.unwrap_or(prefix);
         match which {
             0 => Call::AddAddress { step, address, prefix },
             1 => Call::DropAddress { step, address, prefix },
@@ -347,9 +373,9 @@ impl Generator {
         let step = self.short_step();
         let lease = &post.plain.client.lease;
         let r = &mut self.random;
-        let any = r.byte();
-        let mut kind = r.pick(&[1, 3, 6, 51, 53, 54, 58, 100, 0, 255, any, any]);
-        if lease.store_whole() && lease.used > 0 && r.percent(35) {
+        let any = r.wide_byte();
+        let mut kind = r.among(10, &[1, 3, 6, 51, 53, 54, 58, 100, 0, 255, any, any]);
+        if lease.store_whole() && lease.used > 0 && r.wide(35) {
             let (mut kinds, mut rest) = (vec![], &lease.options[..lease.used as usize]);
             while let [kind, length, after @ ..] = rest {
                 kinds.push(*kind);
@@ -374,7 +400,7 @@ impl Generator {
     }
 
     fn state(&mut self, moment: u32) {
-        let id = self.random.word();
+        let id = if self.random.narrow && self.random.percent(20) { 1 } else { self.random.word() };
         let state = match self.random.below(7) {
             0 => State::Init,
             1 => State::Discovering { retry_at: self.deadline(moment) },
@@ -403,10 +429,10 @@ impl Generator {
         let mut lease = Lease::ZERO;
         let r = &mut self.random;
         lease.server = r.address();
-        lease.identifier = if r.percent(20) { lease.server } else { r.address() };
+        lease.identifier = if r.wide(20) { lease.server } else { r.address() };
         lease.address = r.address();
         lease.prefix = r.upto(32) as u8;
-        lease.router = r.percent(60).then(|| if r.percent(20) { r.pick(&ODD) } else { r.address() });
+        lease.router = r.percent(60).then(|| if r.wide(20) { r.odd() } else { r.address() });
         lease.dns_count = r.upto(3) as u8;
         for place in 0..lease.dns_count as usize {
             lease.dns[place] = r.address();
@@ -420,20 +446,20 @@ impl Generator {
 
     /// A whole state with one thing in it that is not whole.
     fn broken(&mut self, moment: u32) {
-        let (mut settings, mut site) = self.good_settings();
+        let mut settings = self.good_settings();
         let what = self.random.below(14);
         let r = &mut self.random;
         match what {
-            0 => settings.medium = r.pick(&[1, 2, 255]),
-            1 => settings.mtu = r.pick(&[0, 575, 1501, 65535]),
+            0 => settings.medium = r.wider(&[1, 2, 255]),
+            1 => settings.mtu = r.among(3, &[0, 575, 1501, 65535]),
             2 => settings.name = r.bytes(64),
             3 => settings.list = Some(r.bytes(65)),
-            4 => settings.extra = r.pick(&[&[12, 2, 65][..], &[12, 3, 65], &[12], &[0, 0, 255]]).to_vec(),
-            5 => settings.extra = if r.percent(50) { vec![9; 257] } else { [vec![43, 254], r.bytes(254)].concat() },
-            6 => site.maximum = Some(r.pick(&[LONGEST + 1, u32::MAX])),
+            4 => settings.extra = r.among(2, &[&[12, 2, 65][..], &[12, 3, 65], &[12], &[0, 0, 255]]).to_vec(),
+            5 => settings.extra = if r.wide(50) { [vec![43, 254], r.bytes(254)].concat() } else { vec![9; 257] },
+            6 => settings.maximum = Some(r.wider(&[LONGEST + 1, u32::MAX])),
             _ => {}
         }
-        self.queue.extend(Call::set(settings, site));
+        self.queue.push_back(Call::Settings(settings));
         let mut lease = self.lease();
         match what {
             7 => lease.prefix = self.random.pick(&[33, 255]),
@@ -446,7 +472,7 @@ impl Generator {
             _ => {}
         }
         let expires_at = self.deadline(moment);
-        if !(7..=10).contains(&what) && self.random.percent(50) {
+        if !(7..=10).contains(&what) && self.random.wide(50) {
             self.state(moment);
         } else {
             let state = State::Renewing { renew_at: moment, rebind_at: moment, expires_at, rebinding: false };
@@ -530,8 +556,8 @@ impl Generator {
             17..=18 => need - 1,
             19..=20 => 0,
             21 => r.pick(&[1, 7, 8, 9, 27, 28, 100, 239, 240, 247, 248, 249]),
-            22 if r.percent(8) => u16::MAX as u64,
-            22 => r.pick(&[1472, 1480, 1500]),
+            22 if r.wide(8) => u16::MAX as u64,
+            22 => r.wider(&[1480, 1472, 1500]),
             23 => r.below(700),
             _ => need + 1,
         };

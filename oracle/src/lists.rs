@@ -2,7 +2,7 @@
 use std::collections::BTreeMap;
 
 use crate::boundaries;
-use crate::generate::{Generator, Kind};
+use crate::generate::{Generator, Kind, Random};
 use crate::number;
 use crate::post::Post;
 use crate::record::{Answer, Call};
@@ -11,9 +11,10 @@ use crate::write::Writer;
 
 /// Makes calls, one after the other, and hands each on with the records that set the post as it stood before, until it has
 /// been enough.
-fn make(kind: Kind, seed: u64, mut each: impl FnMut(&Call, &Answer, &[Call]) -> Result<bool, String>) -> Result<(), String> {
+fn make(kind: Kind, seed: Random, mut each: impl FnMut(&Call, &Answer, &[Call]) -> Result<bool, String>) -> Result<(), String> {
     let mut run = Run::new(Post::new());
-    let mut generator = Generator::new(seed, kind);
+    let mut generator = Generator::new(seed.state, kind);
+    generator.random.narrow = seed.narrow;
     loop {
         let call = generator.next(&run.post);
         let before = run.snapshot();
@@ -26,7 +27,7 @@ fn make(kind: Kind, seed: u64, mut each: impl FnMut(&Call, &Answer, &[Call]) -> 
 }
 
 /// A list as it comes.
-fn whole(kind: Kind, seed: u64, count: u64, writer: &mut Writer) -> Result<(), String> {
+fn whole(kind: Kind, seed: Random, count: u64, writer: &mut Writer) -> Result<(), String> {
     let mut left = count;
     make(kind, seed, |call, answer, _| {
         writer.call(call);
@@ -37,7 +38,7 @@ fn whole(kind: Kind, seed: u64, count: u64, writer: &mut Writer) -> Result<(), S
 }
 
 /// Single calls picked from a list, each on the post that is set before it. No outcome of one state gets more than an eighth.
-fn singles(words: &[&str], kind: Kind, seed: u64, count: u64, writer: &mut Writer) -> Result<(), String> {
+fn singles(words: &[&str], kind: Kind, seed: Random, count: u64, writer: &mut Writer) -> Result<(), String> {
     let mut left = count;
     let mut seen: BTreeMap<(u8, u8, bool), u64> = BTreeMap::new();
     make(kind, seed, |call, answer, before| {
@@ -62,7 +63,7 @@ fn singles(words: &[&str], kind: Kind, seed: u64, count: u64, writer: &mut Write
 }
 
 /// Options read from the replies of a list.
-fn options(seed: u64, count: u64, writer: &mut Writer) -> Result<(), String> {
+fn options(seed: Random, count: u64, writer: &mut Writer) -> Result<(), String> {
     let mut left = count as usize;
     make(Kind::Runs, seed, |call, _, _| {
         if let Call::Process { reply, .. } = call {
@@ -75,8 +76,8 @@ fn options(seed: u64, count: u64, writer: &mut Writer) -> Result<(), String> {
     })
 }
 
-pub fn generate(kind: &str, seed: &str, count: &str) -> Result<(), String> {
-    let (seed, count) = (number(seed)?, number(count)?);
+pub fn generate(kind: &str, seed: &str, count: &str, narrow: bool) -> Result<(), String> {
+    let (seed, count) = (Random { state: number(seed)?, narrow }, number(count)?);
     if count == 0 {
         return Ok(());
     }

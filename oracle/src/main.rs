@@ -75,8 +75,9 @@ const USAGE: &str = "usage: oracle answer                     answers the calls 
        oracle expand                     turns calls written by hand, `reply` among them, into a list of calls
        oracle expect                     runs a list of calls, and holds the answers to its `#=` and `#!` lines
        oracle show                       prints calls or answers, with the messages in them in words
-       oracle generate KIND SEED COUNT   writes that many calls: KIND is runs, states,
-                                         broken, tables, replies, polls or wire
+       oracle generate KIND SEED COUNT [narrow]
+                                         writes that many calls: KIND is runs, states, broken, tables, replies, polls or wire;
+                                         narrow: of the fewer values that the recorded lists were made of
        oracle boundaries KIND            writes calls round the limits: KIND is creations, replies, polls or wire
        oracle check SEED COUNT [FAULT]   compares that many calls with the papers, and asks demand 3 of the Rust; FAULT, a
                                          wrong expectation that must be found, is late-expiry, lost-returns or early-waking
@@ -105,7 +106,8 @@ fn main() -> ExitCode {
         ["expand"] => expand(),
         ["expect"] => expect(),
         ["show"] => show(),
-        ["generate", kind, seed, count] => lists::generate(kind, seed, count),
+        ["generate", kind, seed, count] => lists::generate(kind, seed, count, false),
+        ["generate", kind, seed, count, "narrow"] => lists::generate(kind, seed, count, true),
         ["boundaries", kind] => lists::boundaries(kind),
         ["season"] => season::season(),
         ["season", "calls"] => pitch::calls("1"),

@@ -48,8 +48,8 @@ pub fn before_draw(state: u64) -> u64 {
     state.wrapping_sub(SUMMAND).wrapping_mul((0..5).fold(FACTOR, round))
 }
 
-/// What creation says of settings and site.
-fn creation(s: &Settings, site: &Site) -> u8 {
+/// What creation says of settings.
+fn creation(s: &Settings) -> u8 {
     let longest = s.datagram(true) - 8;
     match s {
         _ if s.medium != ETHERNET => 1,
@@ -57,7 +57,7 @@ fn creation(s: &Settings, site: &Site) -> u8 {
         _ if s.name.len() > 63 => 3,
         _ if s.list.as_ref().is_some_and(|list| list.len() > 64) => 4,
         _ if s.extra.len() > 255 || !whole_items(&s.extra) => 5,
-        _ if site.maximum.is_some_and(|maximum| maximum > 1_073_741_824) => 6,
+        _ if s.maximum.is_some_and(|maximum| maximum > 1_073_741_824) => 6,
         _ if longest > s.mtu as usize - 28 => 7,
         _ => 0,
     }
@@ -83,9 +83,9 @@ impl Answers for Plain {
         self.buffer.clear();
         match call {
             Call::New => {
-                let number = creation(&self.client.settings, &self.client.site);
+                let number = creation(&self.client.settings);
                 if number != 0 {
-                    (self.client.settings, self.client.site) = (Settings::zero(), Site::default());
+                    self.client.settings = Settings::zero();
                 }
                 self.client.id = if number == 0 { 1 } else { 0 };
                 self.client.state = State::Init;
@@ -167,7 +167,7 @@ impl Answers for Plain {
 
 impl Plain {
     fn whole(&self) -> bool {
-        creation(&self.client.settings, &self.client.site) == 0 && self.client.whole() && self.tables.whole()
+        creation(&self.client.settings) == 0 && self.client.whole() && self.tables.whole()
     }
 
     fn manual(&mut self, step: u32, prefix: u8, change: impl FnOnce(&mut Tables) -> u8) -> Answer {
@@ -209,7 +209,7 @@ impl Plain {
                 message::prefix(mask).ok_or(29)?;
                 if message::unicast(yours) { Ok(kind) } else { Err(30) }
             }
-            (State::Requesting { .. } | State::Renewing { .. }, NAK) if !client.site.ignore_naks => Ok(kind),
+            (State::Requesting { .. } | State::Renewing { .. }, NAK) if !client.settings.ignore_naks => Ok(kind),
             _ => Err(26),
         }
     }
@@ -230,9 +230,9 @@ impl Plain {
             }
             NAK => self.reset(),
             _ => {
-                let (renew, rebind, l) = message::times(reply, self.client.site.maximum);
+                let (renew, rebind, l) = message::times(reply, self.client.settings.maximum);
                 let mut lease = Lease { server, identifier, address: yours, ..Lease::ZERO };
-                let ack = message::ack(reply, self.client.site.maximum);
+                let ack = message::ack(reply, self.client.settings.maximum);
                 lease.prefix = ack.prefix;
                 lease.router = ack.router;
                 let groups = message::option(reply, 6).unwrap_or(&[]).chunks_exact(4);

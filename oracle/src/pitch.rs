@@ -90,7 +90,7 @@ struct Pitch {
 
 pub fn calls(seed: &str) -> Result<(), String> {
     let seed = number(seed)?;
-    let mut random = Random(seed);
+    let mut random = Random::new(seed);
     let mut incidents: Vec<Incident> = INCIDENTS.iter().map(|row| incident(row, &mut random)).collect();
     // After the last reset the server is slow: its OFFERs come, its ACKs don't.
     let slow = incidents.iter().rev().find(|i| i.what == LinkDown).map_or(0, |i| i.until);

@@ -18,7 +18,6 @@ pub const DAY: u32 = 86_400_000;
 /// The medium that has hardware addresses of six bytes. Any other number stands for the medium Ip.
 pub const ETHERNET: u8 = 0;
 
-/// The device's own settings.
 #[derive(Clone, Debug, PartialEq, Eq)]
 pub struct Settings {
     pub medium: u8,
@@ -28,18 +27,23 @@ pub struct Settings {
     pub name: Vec<u8>,
     pub list: Option<Vec<u8>>,
     pub extra: Vec<u8>,
-}
-
-/// What a site decides.
-#[derive(Clone, Copy, Debug, Default, PartialEq, Eq)]
-pub struct Site {
     pub maximum: Option<u32>,
     pub ignore_naks: bool,
 }
 
 impl Settings {
     pub fn zero() -> Self {
-        Settings { medium: ETHERNET, mtu: 0, hardware: [0; 6], offload: false, name: vec![], list: None, extra: vec![] }
+        Settings {
+            medium: ETHERNET,
+            mtu: 0,
+            hardware: [0; 6],
+            offload: false,
+            name: vec![],
+            list: None,
+            extra: vec![],
+            maximum: None,
+            ignore_naks: false,
+        }
     }
 
     /// The length of the datagram of a message that is sent with these settings; in Requesting it has two options more.
@@ -112,7 +116,6 @@ impl Lease {
 #[derive(Clone, Debug, PartialEq, Eq)]
 pub struct Client {
     pub settings: Settings,
-    pub site: Site,
     pub id: u32,
     pub state: State,
     /// All zero but in Renewing.
@@ -182,7 +185,7 @@ impl Plain {
     /// An all-zero client with empty tables.
     pub fn zero() -> Self {
         Plain {
-            client: Client { settings: Settings::zero(), site: Site::default(), id: 0, state: State::Init, lease: Lease::ZERO },
+            client: Client { settings: Settings::zero(), id: 0, state: State::Init, lease: Lease::ZERO },
             tables: Tables::default(),
             generator: 0,
             moment: 0,

@@ -151,13 +151,13 @@ impl Post {
         if !self.make() {
             return 1;
         }
-        let site = self.plain.client.site;
-        match &self.plain.client.settings {
+        let settings = &self.plain.client.settings;
+        match settings {
             s if s.mtu < LEAST_MTU || s.mtu > MOST_MTU => 2,
             s if s.name.len() > MOST_NAME => 3,
             s if s.list.as_ref().is_some_and(|list| list.len() > MOST_LIST) => 4,
             s if s.extra.len() > MOST_EXTRA || !whole_items(&s.extra) => 5,
-            _ if site.maximum.is_some_and(|maximum| maximum > LONGEST) => 6,
+            s if s.maximum.is_some_and(|maximum| maximum > LONGEST) => 6,
             _ if self.longest_message_panics() => 7,
             _ => 0,
         }
@@ -165,7 +165,7 @@ impl Post {
 
     /// Makes the Rust's client from the settings: whether it took them.
     fn make(&mut self) -> bool {
-        let Client { settings, site, .. } = &self.plain.client;
+        let settings = &self.plain.client.settings;
         self.ifaces.0.dhcpv4 = None;
         self.list = settings.list.clone().unwrap_or_default();
         self.extra = settings.extra.clone();
@@ -181,8 +181,8 @@ impl Post {
         // SAFETY: as for `extra`.
         config.outgoing_options = unsafe { forever(&self.extra_options) };
         config.parameter_request_list = settings.list.as_ref().map(|_| unsafe { forever(&self.list) });
-        config.max_lease_duration = site.maximum.map(Duration::from_millis);
-        config.ignore_naks = site.ignore_naks;
+        config.max_lease_duration = settings.maximum.map(Duration::from_millis);
+        config.ignore_naks = settings.ignore_naks;
 
         let iface = &mut self.ifaces.0;
         let ethernet = settings.medium == ETHERNET;

@@ -30,7 +30,6 @@ pub fn form(word: &[u8]) -> Option<&'static str> {
     Some(match word {
         b"start" => START,
         b"settings" => SETTINGS,
-        b"site" => SITE,
         b"init" => INIT,
         b"discovering" => DISCOVERING,
         b"requesting" => REQUESTING,
@@ -180,11 +179,18 @@ impl Fields {
                 let listed = self.yes();
                 let list = self.taken().to_vec();
                 let extra = self.taken().to_vec();
-                Call::Settings(Settings { medium, mtu, hardware, offload, name, list: listed.then_some(list), extra })
-            }
-            SITE => {
-                let (capped, maximum) = (self.yes(), self.w());
-                Call::Site(Site { maximum: capped.then_some(maximum), ignore_naks: self.yes() })
+                let (capped, maximum, ignore_naks) = (self.yes(), self.w(), self.yes());
+                Call::Settings(Settings {
+                    medium,
+                    mtu,
+                    hardware,
+                    offload,
+                    name,
+                    list: listed.then_some(list),
+                    extra,
+                    maximum: capped.then_some(maximum),
+                    ignore_naks,
+                })
             }
             INIT => Call::State { id: self.w(), state: State::Init },
             DISCOVERING => Call::State { id: self.w(), state: State::Discovering { retry_at: self.w() } },
@@ -284,12 +290,6 @@ impl Fields {
             }
         };
         Ok((moment, answer))
-    }
-
-    /// Reads a record of that form, for whether it is one.
-    pub fn told(&mut self, form: &'static str, line: &[u8]) -> Result<(), String> {
-        let word = form.split(' ').next().unwrap();
-        self.read(form, line).map_err(|why| format!("{word}: {why}"))
     }
 
     /// Reads what a poll sent: the datagram's length and its two addresses.

@@ -5,8 +5,8 @@ use crate::post::{Polled, Taken};
 // The forms. A gap is %b (0 or 1), %c (8 bits), %h (16 bits), %w (32 bits), %q (64 bits), %a (an address), %x (bytes in hex).
 
 pub const START: &str = "start moment=%w generator=%q";
-pub const SETTINGS: &str = "settings medium=%c mtu=%h hardware=%x offload=%b name=%x listed=%b list=%x extra=%x";
-pub const SITE: &str = "site capped=%b maximum=%w ignore_naks=%b";
+pub const SETTINGS: &str =
+    "settings medium=%c mtu=%h hardware=%x offload=%b name=%x listed=%b list=%x extra=%x capped=%b maximum=%w ignore_naks=%b";
 pub const INIT: &str = "init id=%w";
 pub const DISCOVERING: &str = "discovering id=%w retry_at=%w";
 pub const REQUESTING: &str = "requesting id=%w retry_at=%w retry=%h server=%a identifier=%a requested=%a";
@@ -50,7 +50,6 @@ pub const LONGEST_LINE: usize = 140_000;
 pub enum Call {
     Start { moment: u32, generator: u64 },
     Settings(Settings),
-    Site(Site),
     State { id: u32, state: State },
     Lease(Box<Lease>),
     Tables { generation: u32, addresses: u8, routes: u8 },
@@ -74,12 +73,6 @@ pub enum Call {
 }
 
 impl Call {
-    /// The records that set a client's settings and site after a `start`: a site that is all zero has none.
-    pub fn set(settings: Settings, site: Site) -> impl Iterator<Item = Call> {
-        let site = (site != Site::default()).then_some(Call::Site(site));
-        [Call::Settings(settings)].into_iter().chain(site)
-    }
-
     /// What it adds to the moment.
     pub fn step(&self) -> u32 {
         match self {

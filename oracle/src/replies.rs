@@ -4,7 +4,7 @@ use crate::message::{self, ACK, DISCOVER, NAK, OFFER, REQUEST};
 use crate::plain::*;
 use crate::post::Post;
 use crate::record::Call;
-use crate::values::{ADDRESSES, MASKS, ODD};
+use crate::values::{ADDRESSES, MASKS};
 
 impl Generator {
     pub fn process(&mut self, post: &Post) -> Call {
@@ -29,13 +29,13 @@ impl Generator {
         let step = self.within(step);
         let r = &mut self.random;
         let source = match r.below(12) {
-            0 => r.pick(&ODD),
+            0 => r.odd(),
             1 => r.address(),
             _ => self.source,
         };
         let held = post.plain.client.id;
         let id = match r.below(25) {
-            0 => r.pick(&[held.wrapping_add(1), held.wrapping_sub(1), held.swap_bytes(), !held]),
+            0 => r.wider(&[held.wrapping_add(1), held.wrapping_sub(1), held.swap_bytes(), !held]),
             1 => r.word(),
             _ => held,
         };
@@ -44,19 +44,19 @@ impl Generator {
             hardware[r.below(6) as usize] ^= 1 << r.below(8);
         }
         let your = match r.below(20) {
-            0 => r.pick(&ODD),
+            0 => r.odd(),
             1..=4 => r.pick(&ADDRESSES),
             _ => self.your,
         };
         let options = self.options(kind);
         let mut reply = message::reply(id, &hardware, your, &options);
-        if self.random.percent(25) {
+        if self.random.wide(25) {
             self.not_read(&mut reply);
         }
         if !self.sober || self.random.percent(10) {
             self.damage(&mut reply);
         }
-        if self.random.percent(12) {
+        if self.random.wide(12) {
             self.lengthen(&mut reply);
         }
         Call::Process { step, source, reply }
@@ -84,14 +84,14 @@ impl Generator {
         let kinds = if plain || r.percent(95) { vec![kind] } else { r.pick(&[&[][..], &[5, 5], &[2, 0]]).to_vec() };
         items.push(item(53, &kinds));
         // Mostly the run's, so that an OFFER and the ACK after it agree; four octets of it are read.
-        let identifier = if r.percent(80) { self.identifier } else { r.address() };
+        let identifier = if r.wide(20) { r.address() } else { self.identifier };
         let length: usize = match plain {
-            true => r.pick(&[4, 4, 4, 4, 4, 4, 4, 4, 4, 5, 8]),
-            false => r.pick(&[4, 4, 4, 4, 4, 4, 4, 4, 4, 4, 4, 5, 8, 255, 3, 3, 2, 1, 0]),
+            true => r.wider(&[4, 4, 4, 4, 4, 4, 4, 4, 4, 5, 8]),
+            false => r.among(11, &[4, 4, 4, 4, 4, 4, 4, 4, 5, 3, 0, 4, 4, 4, 8, 255, 3, 2, 1]),
         };
         if plain || r.percent(96) {
             let mut data = identifier.to_vec();
-            data.extend(r.bytes(length.saturating_sub(4)));
+            data.extend(if r.narrow { vec![7] } else { r.bytes(length.saturating_sub(4)) });
             items.push(item(54, &data[..length]));
         }
         if kind == ACK || r.percent(30) {
@@ -131,17 +131,17 @@ impl Generator {
             }
             let r = &mut self.random;
             if r.percent(60) {
-                let count = r.pick(&[1, 1, 1, 1, 1, 1, 2, 2, 63]);
+                let count = r.among(4, &[1, 1, 1, 2, 1, 1, 1, 2, 63]);
                 let mut data: Vec<u8> = (0..count)
-                    .flat_map(|_| if r.percent(80) { r.pick(&[[10, 0, 0, 1], [10, 0, 0, 2]]) } else { r.address() })
+                    .flat_map(|_| if r.percent(80) { r.pick(&[[10, 0, 0, 1], [10, 0, 0, 2]]) } else { r.other() })
                     .collect();
-                data.truncate(r.pick(&[252, 252, 8, 8, 8, 5, 4, 3, 0]));
+                data.truncate(r.among(8, &[252, 8, 8, 8, 5, 4, 3, 0, 252]));
                 items.push(item(3, &data));
             }
             if r.percent(50) {
-                let count = if r.percent(4) { 63 } else { r.upto(5) };
+                let count = if r.wide(4) { 63 } else { r.upto(5) };
                 let mut data: Vec<u8> = (0..count)
-                    .flat_map(|_| if r.percent(75) { r.pick(&[[1, 1, 1, 1], [2, 2, 2, 2], [8, 8, 8, 8]]) } else { r.address() })
+                    .flat_map(|_| if r.percent(75) { r.pick(&[[1, 1, 1, 1], [2, 2, 2, 2], [8, 8, 8, 8]]) } else { r.other() })
                     .collect();
                 let stray = r.pick(&[0, 0, 0, 1, 3]);
                 data.extend(r.bytes(stray));
@@ -160,7 +160,7 @@ impl Generator {
         }
         let r = &mut self.random;
         // Options that are only stored: some, or so many that they fill the store.
-        if r.percent(20) {
+        if r.wide(20) {
             let count = if r.percent(10) { r.below(130) } else { 1 + r.below(3) };
             for _ in 0..count {
                 let (any, length) = (r.byte(), r.pick(&[0, 0, 1, 2, 4, 11]));
@@ -262,7 +262,7 @@ impl Generator {
                 let more = r.bytes(3);
                 reply.splice(at..at, more);
             }
-            8 => {
+            8 if !r.narrow => {
                 reply.remove(r.below(reply.len() as u64) as usize);
             }
             _ => {}

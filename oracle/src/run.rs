@@ -42,9 +42,11 @@ impl<A: Answers> Run<A> {
     /// The records that set a post as this one stands.
     pub fn snapshot(&self) -> Vec<Call> {
         let Plain { client, tables, generator, moment, .. } = self.post.plain();
-        let mut calls = vec![Call::Start { moment: *moment, generator: *generator }];
-        calls.extend(Call::set(client.settings.clone(), client.site));
-        calls.push(Call::State { id: client.id, state: client.state });
+        let mut calls = vec![
+            Call::Start { moment: *moment, generator: *generator },
+            Call::Settings(client.settings.clone()),
+            Call::State { id: client.id, state: client.state },
+        ];
         if client.state.renewing() {
             calls.push(Call::Lease(Box::new(client.lease)));
         }
@@ -63,7 +65,6 @@ impl<A: Answers> Run<A> {
                 (self.addresses, self.routes) = (0, 0);
             }
             Call::Settings(settings) => post.set(true, |plain| plain.client.settings = settings.clone()),
-            Call::Site(site) => post.set(true, |plain| plain.client.site = *site),
             Call::State { id, state } => {
                 post.set(false, |plain| (plain.client.id, plain.client.state) = (*id, *state));
             }

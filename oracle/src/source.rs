@@ -31,7 +31,7 @@ pub type Each<'a> = dyn FnMut(&mut Run<Post>, &Call, Option<&[u8]>) -> Result<Op
 /// others: it depends on nothing else, and two seeds share no part.
 pub fn part(seed: u64, calls: u64, k: u64) -> Option<Source> {
     let before = k.checked_mul(PART).filter(|before| *before < calls)?;
-    let seed = Random(seed.wrapping_add(STEP.wrapping_mul(k))).next();
+    let seed = Random::new(seed.wrapping_add(STEP.wrapping_mul(k))).next();
     Some(Source::Seeded { seed, calls: PART.min(calls - before) })
 }
 
@@ -85,7 +85,7 @@ fn make(seed: u64, kind: Kind, count: u64, run: &mut Run<Post>, each: &mut Each)
 /// Masks, and options of the replies that a run gets. The run is the Rust's alone: these calls do not look at the post.
 fn arguments_alone(seed: u64, count: u64, run: &mut Run<Post>, each: &mut Each) -> Result<(), String> {
     let mut generator = Generator::new(!seed, Kind::Runs);
-    let mut random = Random(seed);
+    let mut random = Random::new(seed);
     let mut left = count;
     while left > 0 {
         let call = generator.next(&run.post);

@@ -39,7 +39,6 @@ impl Variety {
     fn call(&mut self, call: &Call, before: &Plain, answer: &Answer, after: &Plain) {
         match call {
             Call::Settings(settings) => self.settings(settings),
-            Call::Site(site) => self.site(site),
             Call::Lease(lease) => self.lease(lease),
             Call::State { id, state } => {
                 self.see("state: id 0", *id == 0);
@@ -105,11 +104,8 @@ impl Variety {
         self.see("hardware address: a group's", s.hardware[0] & 1 == 1 && s.hardware != [255; 6]);
         let longest = s.datagram(true) + 20;
         self.see("MTU: the least for the longest message, above 576", s.mtu > LEAST_MTU && s.mtu as usize == longest);
-    }
-
-    fn site(&mut self, site: &Site) {
-        self.see("maximum: the longest there is", site.maximum == Some(LONGEST));
-        self.see("maximum: under 8 ms", site.maximum.is_some_and(|maximum| maximum < 8));
+        self.see("maximum: the longest there is", s.maximum == Some(LONGEST));
+        self.see("maximum: under 8 ms", s.maximum.is_some_and(|maximum| maximum < 8));
     }
 
     fn lease(&mut self, lease: &Lease) {

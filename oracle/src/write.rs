@@ -120,11 +120,10 @@ impl Writer {
             .yes(s.list.is_some())
             .bytes(s.list.as_ref().unwrap_or(&none))
             .bytes(&s.extra)
+            .yes(s.maximum.is_some())
+            .n(s.maximum.unwrap_or(0) as u64)
+            .yes(s.ignore_naks)
             .end()
-    }
-
-    pub fn site(&mut self, s: &Site) {
-        self.fill(SITE).yes(s.maximum.is_some()).n(s.maximum.unwrap_or(0) as u64).yes(s.ignore_naks).end()
     }
 
     pub fn state(&mut self, id: u32, state: &State) {
@@ -181,7 +180,6 @@ impl Writer {
         match call {
             Call::Start { moment, generator } => self.fill(START).n(*moment as u64).n(*generator).end(),
             Call::Settings(settings) => self.settings(settings),
-            Call::Site(site) => self.site(site),
             Call::State { id, state } => self.state(*id, state),
             Call::Lease(lease) => self.lease(lease),
             Call::Tables { generation, addresses, routes } => {
@@ -223,7 +221,6 @@ impl Writer {
             Answer::Created { number } => {
                 self.fill(CREATED).n(moment).n(*number as u64).end();
                 self.settings(&post.client.settings);
-                self.site(&post.client.site);
             }
             Answer::Polled(p) => {
                 self.fill(POLLED).n(moment).n(p.number as u64).n(p.wake as u64).yes(p.purge).end();

@@ -120,3 +120,10 @@ module _ {A : Type 0} (n m i : ℕ) (rows : List A) (h : length rows ≡ places)
 
   pub within_use : (d : A) → i < n → get_elem? (take m rows) i ≡ some (get_or rows i d)
   within_use d l = at_place (take m rows) i d (omega (arith, length_in_use n m rows h e)) ∙ ap some (get_or-take m rows i d (omega arith))
+
+-- the same without a name for how many are in use
+pub past_count : {A : Type 0} (m i : ℕ) (rows : List A) → length rows ≡ places → min m places ≤ i → get_elem? (take m rows) i ≡ none
+past_count m i rows h l = past_use (min m places) m i rows h refl l
+
+pub within_count : {A : Type 0} (m i : ℕ) (rows : List A) (d : A) → length rows ≡ places → i < min m places → get_elem? (take m rows) i ≡ some (get_or rows i d)
+within_count m i rows d h l = within_use (min m places) m i rows h refl d l

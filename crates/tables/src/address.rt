@@ -101,6 +101,7 @@ impl AddrTable {
     }
 
     // The entry at a place, if that is in use.
+    #[tactic(auto, using(crate::proofs::Loops::past_count, crate::proofs::Loops::within_count))]
     pub(crate) fn at(self, place: usize) -> AddrAt
         ensures { result ≡ addr_or (get_elem? (addrs_of self) place) }
     {

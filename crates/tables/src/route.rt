@@ -121,6 +121,7 @@ impl RouteTable {
     }
 
     // The entry at a place, if that is in use.
+    #[tactic(auto, using(crate::proofs::Loops::past_count, crate::proofs::Loops::within_count))]
     pub(crate) fn at(self, place: usize) -> RouteAt
         ensures { result ≡ route_or (get_elem? (routes_of self) place) }
     {
