@@ -16,7 +16,7 @@ use Rattle.settings.specs.declared.settings.Settings.{Settings}
 use Rattle.settings.specs.declared.settings.Medium.TheVariants.{Ethernet}
 use Rattle.lease.specs.Leases.{no_lease}
 use Rattle.sending.specs.Sendings.{body_of, datagram_for}
-use Rattle.worked.specs.Starred.{Case, case}
+use Rattle.worked.specs.Starred.{Case}
 
 -- A client of MTU 1,500 and hardware address 02:00:00:00:00:01 that is given nothing else: no name, no request list, no
 -- extra options, no maximum. Creation takes it.
@@ -55,12 +55,15 @@ message_length sending = length (body_of post no_lease 1 sending)
 abbrev udp_length : Sending → ℕ
 udp_length sending = word16 (get_or (datagram_for post no_lease 1 sending) 4 0) (get_or (datagram_for post no_lease 1 sending) 5 0)
 
+abbrev own : List ℕ → List ℕ → Case
+own given stated = record { given = given; stated = stated }
+
 -- Each quotes document 01.
 unfoldable pub sent : List Case
 sent =
     -- "Discover without name: 262 bytes, UDP length 270." "Requesting: 274."
-    case (message_length discovering ∷ udp_length discovering ∷ []) (262 ∷ 270 ∷ [])
-    ∷ case (message_length requesting ∷ []) (274 ∷ [])
+    own (message_length discovering ∷ udp_length discovering ∷ []) (262 ∷ 270 ∷ [])
+    ∷ own (message_length requesting ∷ []) (274 ∷ [])
     ∷ []
 
 pub all_sent : map (λ c. c.given) sent ≡ map (λ c. c.stated) sent

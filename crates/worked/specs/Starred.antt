@@ -25,7 +25,7 @@ pub record Case : Type 0 where
   -- what document 01 states
   pub stated : List ℕ
 
-abbrev pub case : List ℕ → List ℕ → Case
+abbrev case : List ℕ → List ℕ → Case
 case given stated = record { given = given; stated = stated }
 
 -- A number that may be missing, as a list.
