@@ -35,7 +35,7 @@ use Rattle.tables.specs.declared.apply.Applied.{Applied}
 use Rattle.lease.specs.Leases.{no_lease, installed, nothing}
 use Rattle.lease.specs.declared.lease.DhcpLease.{DhcpLease}
 use Rattle.settings.specs.Settings.{refusal_of, waits_of}
-use Rattle.sending.specs.Sendings.{drawn_for, endpoints_of, body_of, datagram_for, wrote, left_in}
+use Rattle.sending.specs.Sendings.{drawn_for, endpoints_of, body_of, wrote, left_in}
 use Rattle.sending.proofs.Sendings.{left_by_lem, datagram_size, fits_or_not}
 use Rattle.client.specs.Clients.{with_lease, with_session, whole_all}
 use Rattle.client.specs.Resets.{restarted, dropped, cleared}
@@ -49,7 +49,7 @@ use Rattle.client.specs.declared.poll.PollOutcome.TheVariants.{Answered}
 use Rattle.client.specs.declared.poll.PollOutcome.TheVariants as outcome
 use Rattle.client.specs.declared.poll.PollChange.{PollChange}
 use Rattle.client.specs.declared.poll.Polled.{Polled}
-use Rattle.client.proofs.Wholes.{settings_whole, all_whole, all_parts}
+use Rattle.client.proofs.Wholes.{settings_whole, all_parts}
 
 -- a message that is sent, from the calls that make it
 pub moves : (from : ClientState) (d : Drawn32) (s : Sending) (a : PollAnswer) {v : Bool} {state : ClientState} {answer : PollAnswer}

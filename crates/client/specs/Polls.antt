@@ -1,6 +1,6 @@
 -- A poll (document 01, "Polling"): what is due, its message, its length; then it is refused, passed by, or written. `polled`,
 -- the last definition, is the whole.
-use Rattle.std.specs.Prelude.{ℕ, Bool, true, false, not, List, [], ◌∷◌, length, ltb}
+use Rattle.std.specs.Prelude.{ℕ, Bool, false, not, List, [], ◌∷◌, length, ltb}
 use Rattle.choice.specs.Choice.{when◌then◌else◌}
 use Rattle.clock.specs.declared.instant.Instant.{Instant}
 use Rattle.clock.specs.declared.rand.Rand.{Rand}

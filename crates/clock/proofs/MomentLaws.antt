@@ -3,7 +3,7 @@ use Rattle.std.proofs.Common.{◌≡◌, ℕ, suc, ◌+◌, ◌-◌, ◌^◌, �
 use native.Mathlib.Decide.{dec_le}
 use borrow.Author.Tests.{eqb-false, lt-leb}
 use Rattle.choice.specs.Choice.{when◌then◌else◌}
-use Rattle.clock.specs.Durations.{longest, clamp}
+use Rattle.clock.specs.Durations.{clamp}
 use Rattle.clock.specs.Moments.{wrap, plus, gap, negative, before, due, rest, earlier, later}
 use Rattle.choice.proofs.Choices.{if_true, if_false}
 

@@ -1,4 +1,4 @@
-use Rattle.std.proofs.Common.{ap, arith, rules}
+use Rattle.std.proofs.Common.{ap, arith}
 use Rattle.clock.specs.Durations.{duration}
 use Rattle.clock.proofs.duration.clamped.Goals as goal
 

@@ -1,4 +1,4 @@
-use Rattle.std.proofs.Common.{arith, rules}
+use Rattle.std.proofs.Common.{arith}
 use Rattle.clock.proofs.Products.{product_fits}
 use Rattle.clock.proofs.product.product.Goals as goal
 

@@ -1,5 +1,4 @@
 use Rattle.clock.proofs.Products.{wrapped_by_halves}
-use Rattle.std.proofs.Common.{rules}
 use Rattle.clock.proofs.product.wrapping_mul_u64.Goals as goal
 
 pub returns : goal.returns

@@ -1,4 +1,4 @@
-use Rattle.std.proofs.Common.{◌*◌, rules}
+use Rattle.std.proofs.Common.{◌*◌}
 use Rattle.clock.proofs.Products.{wrap_add}
 use Rattle.clock.specs.Generator.{next_state}
 use Rattle.clock.proofs.rand.next_state.Goals as goal

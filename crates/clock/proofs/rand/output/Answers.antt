@@ -1,4 +1,4 @@
-use Rattle.std.proofs.Common.{refl, rules}
+use Rattle.std.proofs.Common.{refl}
 use Rattle.clock.specs.Generator.{output_of}
 use Rattle.clock.proofs.rand.output.Goals as goal
 

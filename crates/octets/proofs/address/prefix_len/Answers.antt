@@ -1,7 +1,6 @@
 use native.Mathlib.Omega.{arith}
 use mathlib.Core.Path.{◌≡◌, refl, sym, ap, ◌∙◌}
-use Prim.Native.Nat.{ℕ, ◌-◌, ◌*◌, ◌^◌, ◌≤◌}
-use Rattle.octets.specs.Addresses.{length_up_to, prefix_len}
+use Prim.Native.Nat.{ℕ, ◌*◌}
 use Rattle.octets.proofs.Masks.{small, double, hit, miss, last_hit, last_miss}
 use Rattle.std.proofs.Common.{rules}
 use Rattle.octets.proofs.address.prefix_len.Goals as goal

@@ -1,8 +1,6 @@
-use native.Mathlib.Omega.{arith}
-use mathlib.Core.Path.{◌≡◌, refl, sym, ap, ◌∙◌}
-use Prim.Native.Nat.{ℕ, ◌-◌, ◌*◌, ◌^◌, ◌≤◌}
+use mathlib.Core.Path.{◌≡◌}
+use Prim.Native.Nat.{◌-◌, ◌^◌, ◌≤◌}
 use Rattle.octets.specs.Addresses.{length_up_to, prefix_len}
-use Rattle.octets.proofs.Masks.{small, double, hit, miss, last_hit, last_miss}
 use Rattle.octets.proofs.address.prefix_len.Given as goal
 
 abbrev pub invariant-loop-n : goal.invariant-loop-n

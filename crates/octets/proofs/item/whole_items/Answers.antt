@@ -1,7 +1,7 @@
 use Prim.Native.Nat.{◌+◌}
-use mathlib.Core.Path.{◌≡◌, sym, ◌∙◌}
+use mathlib.Core.Path.{sym, ◌∙◌}
 use native.Mathlib.Omega.{arith}
-use lib.ListN.{length, get_or}
+use lib.ListN.{get_or}
 use Rattle.octets.specs.Items.{whole_items}
 use Rattle.octets.proofs.Runs.{part_tail}
 use Rattle.octets.proofs.Items.{items_end, items_one, items_cut, items_more}

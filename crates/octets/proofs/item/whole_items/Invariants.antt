@@ -1,10 +1,6 @@
-use Prim.Native.Nat.{◌+◌}
-use mathlib.Core.Path.{◌≡◌, sym, ◌∙◌}
-use native.Mathlib.Omega.{arith}
-use lib.ListN.{length, get_or}
+use mathlib.Core.Path.{◌≡◌}
+use lib.ListN.{length}
 use Rattle.octets.specs.Items.{whole_items}
-use Rattle.octets.proofs.Runs.{part_tail}
-use Rattle.octets.proofs.Items.{items_end, items_one, items_cut, items_more}
 use Rattle.octets.proofs.item.whole_items.Given as goal
 
 abbrev pub invariant-loop-t : goal.invariant-loop-t

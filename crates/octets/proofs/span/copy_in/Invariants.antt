@@ -1,12 +1,7 @@
-use mathlib.Core.Path.{◌≡◌, refl, ◌∙◌}
+use mathlib.Core.Path.{◌≡◌}
 use mathlib.Core.List.{◌++◌}
-use Prim.Native.Nat.{◌+◌, ◌≤◌, ◌-◌}
-use native.Mathlib.Numerals.{add-one}
-use native.Mathlib.Omega.{arith}
-use lib.ListN.{length, take, drop, set, get_or, length-set}
-use lib.Seq.{take-length}
-use Rattle.octets.specs.Runs.{over}
-use Rattle.octets.proofs.Runs.{store}
+use Prim.Native.Nat.{◌≤◌, ◌-◌}
+use lib.ListN.{length, take, drop}
 use Rattle.octets.proofs.span.copy_in.Given as goal
 
 abbrev pub invariant-loop-i : goal.invariant-loop-i

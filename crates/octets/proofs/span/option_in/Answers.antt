@@ -2,7 +2,7 @@ use Rattle.octets.proofs.Runs.{next, two_set}
 use lib.ListN.{length, set, length-set, length-take, length-drop}
 use native.Mathlib.Omega.{arith}
 use mathlib.Core.List.{[], ◌∷◌}
-use mathlib.Core.Path.{refl, ◌∙◌}
+use mathlib.Core.Path.{refl}
 use Rattle.octets.proofs.span.option_in.Goals as goal
 
 pub bounds-buf-1 : goal.bounds-buf-1

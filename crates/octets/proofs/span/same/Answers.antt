@@ -1,5 +1,4 @@
-use mathlib.Core.Path.{◌≡◌, refl, sym, ◌∙◌}
-use lib.ListN.{length}
+use mathlib.Core.Path.{sym, ◌∙◌}
 use Rattle.octets.specs.Runs.{same_bytes}
 use Rattle.octets.proofs.Runs.{same_short, same_other, same_more, same_end, part_tail}
 use Rattle.octets.proofs.span.same.Goals as goal

@@ -1,7 +1,6 @@
-use mathlib.Core.Path.{◌≡◌, refl, sym, ◌∙◌}
+use mathlib.Core.Path.{◌≡◌}
 use lib.ListN.{length}
 use Rattle.octets.specs.Runs.{same_bytes}
-use Rattle.octets.proofs.Runs.{same_short, same_other, same_more, same_end, part_tail}
 use Rattle.octets.proofs.span.same.Given as goal
 
 abbrev pub invariant-loop-x : goal.invariant-loop-x

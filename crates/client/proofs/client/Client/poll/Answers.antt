@@ -1,5 +1,4 @@
 use mathlib.Core.Path.{sym, ◌∙◌}
-use borrow.Author.Tests.{not-true, not-false}
 use Rattle.client.proofs.Wholes.{tested}
 use Rattle.client.proofs.Changes.{poll_broken, poll_drops, poll_keeps}
 use Rattle.client.proofs.client.Client.poll.Goals as goal

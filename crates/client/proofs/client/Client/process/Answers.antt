@@ -1,5 +1,4 @@
 use mathlib.Core.Path.{refl, sym, ◌∙◌}
-use borrow.Author.Tests.{not-true, not-false}
 use Rattle.client.proofs.Wholes.{tested}
 use Rattle.client.proofs.Settling.{process_broken, offer_taken, ack_taken, nak_taken, passed_over}
 use Rattle.client.proofs.client.Client.process.Goals as goal

@@ -1,5 +1,4 @@
 use mathlib.Core.Path.{sym, ◌∙◌}
-use borrow.Author.Tests.{not-true, not-false}
 use Rattle.client.proofs.Wholes.{tested}
 use Rattle.client.proofs.Settling.{reset_broken, reset_done_lem}
 use Rattle.client.proofs.client.Client.reset.Goals as goal

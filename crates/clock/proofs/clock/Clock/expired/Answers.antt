@@ -1,4 +1,4 @@
-use Rattle.std.proofs.Common.{refl, rules}
+use Rattle.std.proofs.Common.{refl}
 use Rattle.clock.specs.Clocks.{expired_at}
 use Rattle.choice.proofs.Choices.{if_true, if_false}
 use Rattle.clock.proofs.clock.Clock.expired.Goals as goal

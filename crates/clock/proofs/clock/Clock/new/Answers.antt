@@ -1,5 +1,4 @@
 use Rattle.clock.specs.Clocks.{clock_at}
-use Rattle.std.proofs.Common.{rules}
 use Rattle.clock.proofs.clock.Clock.new.Goals as goal
 
 pub returns : goal.returns

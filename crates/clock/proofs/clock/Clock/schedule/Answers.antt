@@ -1,5 +1,4 @@
 use Rattle.clock.specs.Clocks.{gathering}
-use Rattle.std.proofs.Common.{rules}
 use Rattle.clock.proofs.clock.Clock.schedule.Goals as goal
 
 pub returns : goal.returns

@@ -1,4 +1,4 @@
-use Rattle.std.proofs.Common.{refl, rules}
+use Rattle.std.proofs.Common.{refl}
 use Rattle.clock.specs.Durations.{none_if}
 use Rattle.choice.proofs.Choices.{if_true, if_false}
 use Rattle.clock.proofs.instant.Instant.checked_duration_since.Goals as goal

@@ -1,4 +1,4 @@
-use Rattle.std.proofs.Common.{ap, rules}
+use Rattle.std.proofs.Common.{ap}
 use Rattle.clock.specs.Moments.{negative, before}
 use Rattle.clock.proofs.instant.Instant.is_before.Goals as goal
 

@@ -1,4 +1,4 @@
-use Rattle.std.proofs.Common.{refl, ap, rules}
+use Rattle.std.proofs.Common.{refl, ap}
 use Rattle.clock.specs.Moments.{earlier, moment}
 use Rattle.choice.proofs.Choices.{if_true, if_false}
 use Rattle.clock.proofs.instant.Instant.min.Goals as goal

@@ -1,5 +1,4 @@
 use Rattle.clock.specs.Generator.{drawn16}
-use Rattle.std.proofs.Common.{rules}
 use Rattle.clock.proofs.rand.Rand.rand_u16.Goals as goal
 
 pub returns : goal.returns
