@@ -7,6 +7,7 @@
 
 #![tactic(auto)]
 
+use octets::span::up_to;
 use std::io;
 use std::io::Read;
 
@@ -17,13 +18,20 @@ mod reply;
 mod sum;
 
 fn main(rt: HostRuntime) -> io::Result<()> {
-    let text = input(&rt)?;
-    cases::run(&rt, text.as_slice())
+    let mut text = [0u8; 65536];
+    let n = filled(&rt, &mut text)?;
+    cases::run(&rt, up_to(&text, n))
 }
 
-// The input, as far as its first 65,536 octets.
-fn input(rt: &(impl Input + AllocGlobal)) -> io::Result<Vec<u8>> {
-    let mut text = Vec::new(rt.alloc());
-    rt.reader().take(65536).read_to_end(&mut text)?;
-    Ok(text)
+// Reads until the input ends or there is no room; how many octets.
+fn filled(rt: &impl Input, text: &mut [u8]) -> io::Result<usize> {
+    let mut have = 0;
+    while have < text.len() {
+        let n = rt.reader().read(&mut text[have..])?;
+        if n == 0 {
+            return Ok(have);
+        }
+        have += n;
+    }
+    Ok(have)
 }

@@ -4,7 +4,7 @@
 
 #![tactic(auto)]
 
-ghost use Rattle.std.specs.Prelude.{◌≡◌, length, IfOk};
+ghost use Rattle.std.specs.Prelude.{◌≡◌, length};
 
 mod calls;
 mod look;
@@ -12,31 +12,24 @@ mod stream;
 
 use sheet::rows;
 use sheet::rows::ROOM;
-use std::alloc::{AllocError, Global};
 use std::io;
 
 // The longest buffer that is lent, and the longest reply.
 const LONGEST: usize = 65536;
 
 fn main(rt: HostRuntime) -> io::Result<()> {
-    let mut text = space(rt.alloc())?;
-    let mut out = space(rt.alloc())?;
-    let mut sheet = vec![in rt.alloc(); 0u8; ROOM]?;
-    let mut lent = vec![in rt.alloc(); 0u8; LONGEST]?;
-    replay(
-        &rt,
-        text.as_mut_slice(),
-        out.as_mut_slice(),
-        sheet.as_mut_slice(),
-        lent.as_mut_slice(),
-    )
+    let mut text = space();
+    let mut out = space();
+    let mut sheet = [0u8; ROOM];
+    let mut lent = [0u8; LONGEST];
+    replay(&rt, &mut text, &mut out, &mut sheet, &mut lent)
 }
 
 // Room for a line of calls, and for an answer behind those that wait.
-fn space(alloc: Global) -> Result<Vec<u8>, AllocError>
-    ensures { IfOk result (λ v. 262144 ≡ length v.items) }
+fn space() -> [u8; 262144]
+    ensures { 262144 ≡ length result }
 {
-    vec![in alloc; 0u8; 262144]
+    [0; 262144]
 }
 
 fn replay(
