@@ -3,7 +3,8 @@ use Rattle.tables.specs.Manual.{add_route, changed, manual_route}
 use Rattle.tables.specs.Tables.{routes_of}
 use Rattle.tables.specs.Entries.{places}
 use Rattle.choice.proofs.Choices.{if_true, if_false}
-use Rattle.std.proofs.Common.{◌<◌, ◌≤◌, not, length, sym, ap, ◌∙◌, arith, le-leb}
+use Rattle.octets.specs.Addresses.{unicast}
+use Rattle.std.proofs.Common.{rules, true, ◌≡◌, ◌<◌, ◌≤◌, not, length, sym, ap, ◌∙◌, arith, le-leb}
 use borrow.Author.Tests.{lt-leb}
 use Rattle.tables.proofs.tables.Tables.add_route.Goals as goal
 
@@ -19,8 +20,9 @@ pub returns-then-full : goal.returns-then-full
 unfolding add_route
 returns-then-full c =
     let h : places ≤ length (routes_of c.args.self.routes) = omega (arith, c.len-full.ensures, c.if-full.true) in
+    let u : unicast c.args.router ≡ true = search rules in
     if_false _ (ap not (sym c.admits.ensures ∙ c.if-not-admits.false))
-    (if_false _ (ap not (sym c.x_is_unicast.ensures ∙ c.if-not-x_is_unicast.false))
+    (if_false _ (ap not u)
     (if_true _ (le-leb _ _ h) c.refused-then-full.ensures))
 
 pub returns : goal.returns
@@ -29,6 +31,7 @@ returns c =
     let self = c.args.self in
     let h : length (routes_of self.routes) < places = omega (arith, c.len-full.ensures, c.if-full.false) in
     let e = route_added self.routes c.kept-kept.result c.with-more.result (manual_route c.args.network c.args.prefix c.args.router) c.kept-kept.ensures c.with-more.ensures h in
+    let u : unicast c.args.router ≡ true = search rules in
     if_false _ (ap not (sym c.admits.ensures ∙ c.if-not-admits.false))
-    (if_false _ (ap not (sym c.x_is_unicast.ensures ∙ c.if-not-x_is_unicast.false))
+    (if_false _ (ap not u)
     (if_false _ (lt-leb _ _ h) (c.changed.ensures ∙ ap (changed self self.ip_addrs) e)))
