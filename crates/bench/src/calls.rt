@@ -1,158 +1,111 @@
 // The calls of a case, each on the post as it was at its stage.
-use crate::made::{MOMENT, Post, settings};
-use crate::reply::{MOST, SERVER};
 use crate::sum::Sum;
 use client::Client;
 use clock::{Duration, Instant};
+use made::{LENT, SEASON, SERVER, pitch_17};
 use octets::span::put_bytes_at;
+use post::Post;
 use std::io;
 use tables::{Changed, Tables};
 
-// A turn's moment, so many milliseconds after the last call of its stage and up to 7 more.
-fn at_turn(turn: u64, step: u32) -> Instant {
-    MOMENT
-        .add(Duration {
-            millis: (turn % 8) as u32,
-        })
-        .add(Duration { millis: step })
+// Makes a call at each turn, which sums up what it answers and leaves.
+fn each_turn<F: FnMut(Sum, u64) -> Sum>(rt: &impl Print, turns: u64, call: F) -> io::Result<()>
+    requires { F.IsAlwaysCallable call }
+{
+    println!(rt; "{}", (0..turns).fold(Sum::new(), call))
 }
 
-// What of a client and its tables a call can change.
-fn left(sum: Sum, client: Client, tables: Tables) -> Sum {
-    let session = client.session;
-    let state = session.state;
-    sum.held(
-        state,
-        session.transaction_id,
-        client.lease.address,
-        client.lease.options.len,
-    )
-    .entries(
-        tables.config_generation,
-        tables.ip_addrs.count,
-        tables.routes.count,
-    )
+// A turn's moment, so many milliseconds after the last call of its stage, at SEASON, and up to 7 more.
+fn at_turn(turn: u64, step: u32) -> Instant {
+    let past = (turn % 8) as u32;
+    SEASON
+        .add(Duration { millis: past })
+        .add(Duration { millis: step })
 }
 
 // No call: what a turn costs by itself.
 pub fn none(rt: &impl Print, post: Post, turns: u64) -> io::Result<()> {
-    let mut sum = Sum::new();
-    let mut turn = 0;
-    while turn < turns {
-        let moment = at_turn(turn, 0);
-        sum = left(sum, post.client, post.tables).with(moment.millis);
-        turn += 1;
-    }
-    sum.print(rt)
+    each_turn(rt, turns, |sum, turn| {
+        sum.left(&post.client, &post.tables)
+            .with(at_turn(turn, 0).millis)
+    })
 }
 
-// What the lent buffer holds at first, and how long it can be.
-const LENT: u8 = 0xa5;
-
+// How long the lent buffer can be.
 const ROOM: usize = 600;
 
-pub fn polls_in(rt: &impl Print, post: Post, step: u32, room: usize, turns: u64) -> io::Result<()> {
-    let mut buf = [LENT; ROOM];
-    if room <= ROOM {
-        polls(rt, post, step, &mut buf[..room], turns)?;
-    }
-    Ok(())
-}
-
-fn polls(rt: &impl Print, post: Post, step: u32, buf: &mut [u8], turns: u64) -> io::Result<()> {
+// Polls, replies and creations have a `for` of their own: tried as closures, which zero their locals, they cost 70 to 80
+// instructions a turn more, where docs/SPEED.md takes the 27 of a turn without a call off each row. They take a case's numbers
+// one by one, from the struct that its line was read into.
+pub fn polls(rt: &impl Print, post: Post, step: u32, room: usize, turns: u64) -> io::Result<()> {
+    let mut lent = [LENT; ROOM];
+    let Some(buf) = lent.get_mut(..room) else {
+        return Ok(());
+    };
     let mut rand = post.rand;
     let mut sum = Sum::new();
-    let mut turn = 0;
-    while turn < turns {
+    for turn in 0..turns {
         let moment = at_turn(turn, step);
-        turn += 1;
         let polled = post.client.poll(post.tables, rand, moment, buf);
-        let outcome = polled.outcome;
         rand = polled.rand;
-        sum = left(sum, polled.client, polled.tables)
-            .polled(outcome)
+        sum = sum
+            .left(&polled.client, &polled.tables)
+            .polled(polled.outcome)
             .written(buf);
     }
-    sum.print(rt)
+    println!(rt; "{sum}")
 }
 
-pub fn replies_in(
-    rt: &impl Print,
-    post: Post,
-    made: [u8; MOST],
-    length: usize,
-    turns: u64,
-) -> io::Result<()> {
-    let mut reply = made;
-    if length <= MOST {
-        replies(rt, post, &mut reply[..length], turns)?;
-    }
-    Ok(())
-}
-
-fn replies(rt: &impl Print, post: Post, reply: &mut [u8], turns: u64) -> io::Result<()> {
+// No two turns have the same reply: its ninth octet goes with them.
+pub fn replies(rt: &impl Print, post: Post, reply: &mut [u8], turns: u64) -> io::Result<()> {
     let mut sum = Sum::new();
-    let mut turn = 0;
-    while turn < turns {
+    for turn in 0..turns {
         let moment = at_turn(turn, 20);
         put_bytes_at(reply, 8, &[(turn % 256) as u8]);
-        turn += 1;
         let processed = post.client.process(post.tables, SERVER, reply, moment);
-        let outcome = processed.outcome;
-        sum = left(sum, processed.client, processed.tables).replied(outcome);
+        sum = sum
+            .left(&processed.client, &processed.tables)
+            .purged(processed.outcome);
     }
-    sum.print(rt)
+    println!(rt; "{sum}")
 }
 
 pub fn creations(rt: &impl Print, turns: u64) -> io::Result<()> {
-    let mut settings = settings();
+    let mut client = Client {
+        settings: pitch_17(),
+        ..Client::zero()
+    };
     let tables = Tables::new();
     let mut sum = Sum::new();
-    let mut turn = 0;
-    while turn < turns {
-        settings.hardware[5] = (turn % 256) as u8;
-        let created = Client::new(settings, false);
-        let outcome = created.outcome;
-        sum = left(sum, created.client, tables).done(outcome);
-        turn += 1;
+    // Each takes the settings of the one before: a client that nobody reads the compiler would leave out.
+    for turn in 0..turns {
+        client.settings.hardware[5] = (turn % 256) as u8;
+        let created = Client::new(client.settings, false);
+        client = created.unwrap_or(Client::zero());
+        sum = sum.left(&client, &tables).done(created.map(|_| ()));
     }
-    sum.print(rt)
+    println!(rt; "{sum}")
 }
 
 pub fn resets(rt: &impl Print, post: Post, turns: u64) -> io::Result<()> {
-    let mut sum = Sum::new();
-    let mut turn = 0;
-    while turn < turns {
+    each_turn(rt, turns, |sum, _| {
         let was = post.client.reset(post.tables);
-        let outcome = was.outcome;
-        sum = left(sum, was.client, was.tables).was_reset(outcome);
-        turn += 1;
-    }
-    sum.print(rt)
+        sum.left(&was.client, &was.tables).purged(was.outcome)
+    })
 }
 
-// Manual calls: 3, an address is added; 4, dropped; 5, a route is added; 6, dropped.
-pub fn changes(rt: &impl Print, post: Post, kind: u64, turns: u64) -> io::Result<()> {
-    let mut sum = Sum::new();
-    let mut turn = 0;
-    while turn < turns {
-        let changed = change(post.tables, kind, 0xc0a80000 + (turn % 256) as u32);
-        let outcome = changed.outcome;
-        sum = left(sum, post.client, changed.tables).done(outcome);
-        turn += 1;
-    }
-    sum.print(rt)
-}
-
-fn change(tables: Tables, kind: u64, address: u32) -> Changed {
-    if kind == 3 {
-        return tables.add_address(address, 24);
-    }
-    if kind == 4 {
-        return tables.drop_address(address, 24);
-    }
-    if kind == 5 {
-        return tables.add_route(address, 24, 0x0a000001);
-    }
-    tables.drop_route(address, 24, 0x0a000001)
+// Changes by hand, of an entry that differs from turn to turn.
+pub fn changes<F: Fn(Tables, u32) -> Changed>(
+    rt: &impl Print,
+    post: Post,
+    turns: u64,
+    change: F,
+) -> io::Result<()>
+    requires { F.IsAlwaysCallable change }
+{
+    each_turn(rt, turns, |sum, turn| {
+        let changed = change(post.tables, 0xc0a80000 + (turn % 256) as u32);
+        sum.left(&post.client, &changed.tables)
+            .done(changed.outcome)
+    })
 }

@@ -1,75 +1,180 @@
 // Cases, by their lines.
-use crate::calls::{changes, creations, none, polls_in, replies_in, resets};
-use crate::made::{at_stage, id_of};
+use crate::calls::{changes, creations, none, polls, replies, resets};
+use crate::reply::{fill, reply_to};
+use crate::stage::at_stage;
+use post::Post;
 use std::io;
-use trace::{begins, read_record};
+use trace::read_record;
 
-pub fn run(rt: &impl Print, text: &[u8]) -> io::Result<()> {
-    let mut at = 0;
-    while at < text.len() {
-        case(rt, trace::line_at(text, at))?;
-        at = trace::after_line(text, at);
+// Any line that is no case is a title.
+pub fn run(rt: &impl Print, fresh: Post, text: &[u8]) -> io::Result<()> {
+    // With trace's line_at and after_line the place of each line would be counted by hand.
+    for line in text.split_inclusive(|c| *c == b'\n') {
+        let line = line.strip_suffix(b"\n").unwrap_or(line);
+        // Each kind of case is a struct, read by its own form: an enum over them would be matched once, here.
+        if line.starts_with(b"poll ") {
+            Poll::of(line).run(rt, fresh)?;
+        } else if line.starts_with(b"process ") {
+            Process::of(line).run(rt, fresh)?;
+        } else if line.starts_with(b"call ") {
+            Other::of(line).run(rt, fresh)?;
+        } else {
+            rt.write_all(line)?;
+            println!(rt)?;
+        }
     }
     Ok(())
 }
 
-fn case(rt: &impl Print, line: &[u8]) -> io::Result<()> {
-    if begins(line, b"poll ") {
-        return poll(rt, line);
-    }
-    if begins(line, b"process ") {
-        return process(rt, line);
-    }
-    if begins(line, b"call ") {
-        return other(rt, line);
-    }
-    rt.write_all(line)?;
-    rt.write_all(b"\n")
-}
-
 // Polls with so much room in the lent buffer, so many milliseconds after the stage's last call.
-fn poll(rt: &impl Print, line: &[u8]) -> io::Result<()> {
-    let v = read_record(line, b"poll stage %c step %w room %h number %c turns %w").values;
-    polls_in(rt, at_stage(v[0]), word(v[1]), size(v[2]), v[4])
+#[derive(Clone, Copy)]
+struct Poll {
+    stage: usize,
+    step: u32,
+    room: usize,
+    turns: u64,
 }
 
-// Replies of a type and length, of whose octets some have a value of the case's.
-fn process(rt: &impl Print, line: &[u8]) -> io::Result<()> {
-    let v = read_record(
-        line,
-        b"process stage %c kind %c length %h from %h fill %c %c number %c turns %w",
-    )
-    .values;
-    let post = at_stage(v[0]);
-    let mut reply = crate::reply::made(id_of(post.client), octet(v[1]), size(v[2]));
-    crate::reply::fill(&mut reply, size(v[3]), size(v[4]), octet(v[5]));
-    replies_in(rt, post, reply, size(v[2]), v[7])
+impl Poll {
+    fn of(line: &[u8]) -> Poll {
+        let form = b"poll stage %c step %w room %h number %c turns %w";
+        let [stage, step, room, _, turns, ..] = values(line, form);
+        Poll {
+            stage: size(stage),
+            step: u32::try_from(step).unwrap_or(0),
+            room: size(room),
+            turns,
+        }
+    }
+
+    fn run(self, rt: &impl Print, fresh: Post) -> io::Result<()> {
+        polls(
+            rt,
+            at_stage(fresh, self.stage),
+            self.step,
+            self.room,
+            self.turns,
+        )
+    }
 }
 
-// 0, no call at all; 1, creation; 2, a reset; from 3 on manual calls.
-fn other(rt: &impl Print, line: &[u8]) -> io::Result<()> {
-    let v = read_record(line, b"call %c stage %c number %c turns %w").values;
-    let kind = v[0];
-    if kind == 0 {
-        return none(rt, at_stage(v[1]), v[3]);
-    }
-    if kind == 1 {
-        return creations(rt, v[3]);
-    }
-    if kind == 2 {
-        return resets(rt, at_stage(v[1]), v[3]);
-    }
-    changes(rt, at_stage(v[1]), kind, v[3])
+// Replies of a type and length, of whose octets so many from a place on have a value.
+#[derive(Clone, Copy)]
+struct Process {
+    stage: usize,
+    kind: u8,
+    length: usize,
+    from: usize,
+    count: usize,
+    value: u8,
+    turns: u64,
 }
 
-fn word(v: u64) -> u32 {
-    (v % 4294967296) as u32
+impl Process {
+    fn of(line: &[u8]) -> Process {
+        let form = b"process stage %c kind %c length %h from %h fill %c %c number %c turns %w";
+        let [stage, kind, length, from, count, value, _, turns, ..] = values(line, form);
+        Process {
+            stage: size(stage),
+            kind: u8::try_from(kind).unwrap_or(0),
+            length: size(length),
+            from: size(from),
+            count: size(count),
+            value: u8::try_from(value).unwrap_or(0),
+            turns,
+        }
+    }
+
+    fn run(self, rt: &impl Print, fresh: Post) -> io::Result<()> {
+        let post = at_stage(fresh, self.stage);
+        let mut reply = reply_to(post.client.session.transaction_id, self.kind, self.length);
+        fill(&mut reply, self.from, self.count, self.value);
+        match reply.get_mut(..self.length) {
+            Some(reply) => replies(rt, post, reply, self.turns),
+            None => Ok(()),
+        }
+    }
+}
+
+// A call that is named by a number.
+#[derive(Clone, Copy)]
+struct Other {
+    call: Call,
+    stage: usize,
+    turns: u64,
+}
+
+#[derive(Clone, Copy)]
+enum Call {
+    // no call at all
+    None,
+    Creation,
+    Reset,
+    // by hand
+    AddAddress,
+    DropAddress,
+    AddRoute,
+    DropRoute,
+}
+
+// Any other number is taken for the last, as the Rust's side takes it: no number is refused.
+impl From<u64> for Call {
+    fn from(number: u64) -> Call {
+        match number {
+            0 => Call::None,
+            1 => Call::Creation,
+            2 => Call::Reset,
+            3 => Call::AddAddress,
+            4 => Call::DropAddress,
+            5 => Call::AddRoute,
+            _ => Call::DropRoute,
+        }
+    }
+}
+
+// The router of routes by hand, 10.0.0.1.
+const ROUTER: u32 = 0x0a000001;
+
+impl Other {
+    fn of(line: &[u8]) -> Other {
+        let [call, stage, _, turns, ..] = values(line, b"call %c stage %c number %c turns %w");
+        Other {
+            call: Call::from(call),
+            stage: size(stage),
+            turns,
+        }
+    }
+
+    fn run(self, rt: &impl Print, fresh: Post) -> io::Result<()> {
+        let post = at_stage(fresh, self.stage);
+        let turns = self.turns;
+        match self.call {
+            Call::None => none(rt, post, turns),
+            Call::Creation => creations(rt, turns),
+            Call::Reset => resets(rt, post, turns),
+            Call::AddAddress => changes(rt, post, turns, |t, address| t.add_address(address, 24)),
+            Call::DropAddress => changes(rt, post, turns, |t, address| t.drop_address(address, 24)),
+            Call::AddRoute => changes(
+                rt,
+                post,
+                turns,
+                |t, network| t.add_route(network, 24, ROUTER),
+            ),
+            Call::DropRoute => changes(
+                rt,
+                post,
+                turns,
+                |t, network| t.drop_route(network, 24, ROUTER),
+            ),
+        }
+    }
+}
+
+// The values of a case, zeros where it does not fit its form: it is then made no turns, and is no error.
+fn values(line: &[u8], form: &[u8]) -> [u64; 16] {
+    read_record(line, form).map_or([0; 16], |record| record.values)
 }
 
 fn size(v: u64) -> usize {
-    (v % 65536) as usize
-}
-
-fn octet(v: u64) -> u8 {
-    (v % 256) as u8
+    usize::try_from(v).unwrap_or(0)
 }

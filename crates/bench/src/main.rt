@@ -7,31 +7,21 @@
 
 #![tactic(auto)]
 
-use octets::span::up_to;
-use std::io;
-use std::io::Read;
-
 mod calls;
 mod cases;
-mod made;
 mod reply;
+mod stage;
 mod sum;
+
+use made::filled;
+use stage::fresh;
+use std::io;
 
 fn main(rt: HostRuntime) -> io::Result<()> {
     let mut text = [0u8; 65536];
-    let n = filled(&rt, &mut text)?;
-    cases::run(&rt, up_to(&text, n))
-}
-
-// Reads until the input ends or there is no room; how many octets.
-fn filled(rt: &impl Input, text: &mut [u8]) -> io::Result<usize> {
-    let mut have = 0;
-    while have < text.len() {
-        let n = rt.reader().read(&mut text[have..])?;
-        if n == 0 {
-            return Ok(have);
-        }
-        have += n;
+    let text = filled(&rt, &mut text)?;
+    match fresh() {
+        Ok(post) => cases::run(&rt, post, text),
+        Err(refusal) => println!(&rt; "no post was created: {refusal}"),
     }
-    Ok(have)
 }

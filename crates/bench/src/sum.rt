@@ -1,17 +1,16 @@
 // The digest of a case: two running sums over what its calls answer and leave.
-use client::{PollAnswer, PollOutcome, ReplyOutcome, ResetOutcome};
+use client::{Client, PollAnswer};
 use machine::ClientState;
-use octets::MaybeNumber;
 use octets::word::read_u16;
-use std::io;
-use std::num::wrapping_add_u32;
-use tables::Outcome;
+use reasons::Refusal;
+use std::fmt;
+use tables::Tables;
 
 #[derive(Clone, Copy)]
 pub struct Sum {
     a: u32,
     b: u32,
-    // of the last answer
+    // Of the last answer, 0 where it was no refusal: a word of the digest, and printed so by the Rust's side too.
     number: u32,
 }
 
@@ -25,86 +24,74 @@ impl Sum {
     }
 
     // A poll's answer.
-    pub fn polled(self, outcome: PollOutcome) -> Sum {
+    pub fn polled(self, outcome: Result<PollAnswer, Refusal>) -> Sum {
         match outcome {
-            PollOutcome::Answered(answer) => self.answered(answer),
-            PollOutcome::Refused(number) => self.numbered(number),
+            Ok(answer) => self.answered(answer),
+            Err(refusal) => self.numbered(refusal.into()),
         }
     }
 
     fn answered(self, answer: PollAnswer) -> Sum {
-        let length = (answer.length % 65536) as u32;
+        let length = u32::try_from(answer.length).unwrap_or(u32::MAX);
         self.numbered(0)
-            .with(wrapping_add_u32(answer.wake.millis, length))
-            .with(wrapping_add_u32(answer.source, answer.destination))
-            .with(answer.purge as u32)
+            .with(answer.wake.millis.wrapping_add(length))
+            .with(answer.source.wrapping_add(answer.destination))
+            .with(u32::from(answer.purge))
     }
 
     // The checksum that stands in the lent buffer, if that has room for one.
     pub fn written(self, buf: &[u8]) -> Sum {
         match read_u16(buf, 6) {
-            MaybeNumber::Some(n) => self.with(n),
-            MaybeNumber::None => self,
+            Some(n) => self.with(n),
+            None => self,
         }
     }
 
-    // What became of a reply.
-    pub fn replied(self, outcome: ReplyOutcome) -> Sum {
+    // What became of a reply or a reset: whether link state is to be purged.
+    pub fn purged<E: Into<u32>>(self, outcome: Result<bool, E>) -> Sum {
         match outcome {
-            ReplyOutcome::Taken { purge } => self.numbered(0).with(purge as u32),
-            ReplyOutcome::PassedOver(number) => self.numbered(number),
-            ReplyOutcome::Refused(number) => self.numbered(number),
-        }
-    }
-
-    pub fn was_reset(self, outcome: ResetOutcome) -> Sum {
-        match outcome {
-            ResetOutcome::Done { purge } => self.numbered(0).with(purge as u32),
-            ResetOutcome::Refused(number) => self.numbered(number),
+            Ok(purge) => self.numbered(0).with(u32::from(purge)),
+            Err(error) => self.numbered(error.into()),
         }
     }
 
     // Creation, or a manual call.
-    pub fn done(self, outcome: Outcome) -> Sum {
+    pub fn done(self, outcome: Result<(), Refusal>) -> Sum {
         match outcome {
-            Outcome::Done => self.numbered(0),
-            Outcome::Refused(number) => self.numbered(number),
+            Ok(()) => self.numbered(0),
+            Err(refusal) => self.numbered(refusal.into()),
         }
     }
 
-    // What of a client's state and lease a call can change.
-    pub fn held(self, state: ClientState, id: u32, address: u32, used: usize) -> Sum {
-        self.with(deadlines(state))
-            .with(wrapping_add_u32(id, address))
-            .with((used % 65536) as u32)
-    }
-
-    // How many entries, and of which generation.
-    pub fn entries(self, generation: u32, addresses: usize, routes: usize) -> Sum {
-        self.with(generation)
-            .with((addresses % 256 * 256 + routes % 256) as u32)
+    // What of a client and its tables a call can change.
+    pub fn left(self, client: &Client, tables: &Tables) -> Sum {
+        let session = client.session;
+        let lease = client.lease;
+        let used = (lease.options.len % 65536) as u32;
+        let addresses = tables.ip_addrs.count % 256;
+        let routes = tables.routes.count % 256;
+        self.with(deadlines(session.state))
+            .with(session.transaction_id.wrapping_add(lease.address))
+            .with(used)
+            .with(tables.config_generation)
+            .with((addresses * 256 + routes) as u32)
     }
 
     pub fn with(self, word: u32) -> Sum {
-        let a = wrapping_add_u32(self.a, word);
-        Sum {
-            a,
-            b: wrapping_add_u32(self.b, a),
-            number: self.number,
-        }
+        let a = self.a.wrapping_add(word);
+        let b = self.b.wrapping_add(a);
+        Sum { a, b, ..self }
     }
 
-    fn numbered(mut self, number: u32) -> Sum {
-        self.number = number;
-        self.with(number)
+    fn numbered(self, number: u32) -> Sum {
+        Sum { number, ..self }.with(number)
     }
+}
 
-    pub fn print(self, rt: &impl Print) -> io::Result<()> {
-        rt.write_all(b"  number ")?;
-        rt.print(self.number as u64)?;
-        rt.write_all(b", digest ")?;
-        print!(rt; "{:08x}{:08x}", self.a, self.b)?;
-        rt.write_all(b"\n")
+impl fmt::Display for Sum {
+    fn fmt<W: fmt::Write>(&self, f: &mut fmt::Formatter<W>) -> fmt::Result {
+        let Sum { a, b, number } = *self;
+        write!(f, "  number {number}, digest {a:08x}{b:08x}")
     }
 }
 
@@ -113,10 +100,11 @@ fn deadlines(state: ClientState) -> u32 {
     match state {
         ClientState::Init => 0,
         ClientState::Discovering(s) => s.retry_at.millis,
-        ClientState::Requesting(s) => wrapping_add_u32(s.tries.retry_at.millis, s.requested_ip),
-        ClientState::Renewing(s) => wrapping_add_u32(
-            wrapping_add_u32(s.renew_at.millis, s.rebind_at.millis),
-            s.expires_at.millis,
-        ),
+        ClientState::Requesting(s) => s.tries.retry_at.millis.wrapping_add(s.requested_ip),
+        ClientState::Renewing(s) => s
+            .renew_at
+            .millis
+            .wrapping_add(s.rebind_at.millis)
+            .wrapping_add(s.expires_at.millis),
     }
 }

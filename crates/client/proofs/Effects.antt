@@ -1,4 +1,5 @@
 -- What each call does to the state, to what the lease gives, and to DHCP's entries in the tables. Assumes nothing.
+use Rattle.std.proofs.Common.{Some, Result, Ok, Err}
 use Prim.Native.Nat.{ℕ}
 use mathlib.Core.Path.{◌≡◌, refl, sym, ap, ◌∙◌, subst}
 use mathlib.Core.Bool.{Bool, true, false, not, ◌&&◌}
@@ -11,7 +12,6 @@ use Rattle.clock.specs.Moments.{wrap}
 use Rattle.clock.specs.declared.instant.Instant.{Instant}
 use Rattle.clock.specs.declared.rand.Rand.{Rand}
 use Rattle.octets.specs.Codes.{offer, ack, nak}
-use Rattle.octets.specs.declared.number.MaybeNumber.TheVariants.{Some}
 use Rattle.wire.specs.Readings.{message_type, router}
 use Rattle.wire.specs.Stored.{same_options}
 use Rattle.machine.specs.States.{has_lease, requesting}
@@ -24,7 +24,6 @@ use Rattle.tables.specs.Entries.{less_lost}
 use Rattle.tables.specs.Tables.{dhcp_addrs, other_addrs, dhcp_routes, other_routes}
 use Rattle.tables.specs.Applied.{same_cidr, same_router, leased_addrs, leased_routes, applied}
 use Rattle.tables.specs.declared.tables.Tables.{Tables}
-use Rattle.tables.specs.declared.apply.MaybeCidr.TheVariants.{Cidr}
 use Rattle.tables.specs.declared.apply.Installed.{Installed}
 use Rattle.tables.proofs.Origins.{and_true, own_addrs_applied, own_routes_applied, same_cidr_lem, same_cidr_self, same_router_lem, same_router_self}
 use Rattle.lease.specs.Leases.{no_lease, same_terms, same_addresses, same_lease, installed, nothing}
@@ -39,10 +38,11 @@ use Rattle.lease.specs.declared.lease.DhcpLease.{DhcpLease}
 use Rattle.client.specs.declared.client.Client.{Client}
 use Rattle.judge.specs.declared.judge.Acked.{Acked}
 use Rattle.judge.specs.declared.judge.Verdict.{Verdict}
-use Rattle.judge.specs.declared.judge.Verdict.TheVariants.{Offer, Ack, Nak, PassedOver}
-use Rattle.client.specs.declared.reset.Settled.{Settled}
-use Rattle.client.specs.declared.reset.WasReset.{WasReset}
-use Rattle.client.specs.declared.process.Processed.{Processed}
+use Rattle.judge.specs.declared.judge.Verdict.TheVariants.{Offer, Ack, Nak}
+use Rattle.reasons.specs.declared.passed_over.PassedOver.{PassedOver}
+use Rattle.client.specs.declared.client.Settled.{Settled}
+use Rattle.client.specs.Outcomes.{WasReset}
+use Rattle.client.specs.Outcomes.{Processed}
 use Rattle.client.proofs.Unchanged.{was_taken, was_made}
 use Rattle.judge.proofs.Verdicts.{Reads, begun, Says, judged_says}
 
@@ -85,7 +85,7 @@ settles_by old new s e f h = record { settings = s; entries = rw (e, f) h }
 
 -- A reset: Init, and nothing is given.
 module _ (c : Client) (t : Tables) where
-  abbrev Clears : Settled → Type 0
+  abbrev Clears : Settled Bool → Type 0
   Clears s = (s.client.session.state ≡ Init) × Settles c t s.client s.tables
 
   cleared_settles : Clears (cleared c t)
@@ -116,7 +116,7 @@ same_gives : (a b : DhcpLease) → same_lease a b ≡ true → installed a ≡ i
 same_gives a b h =
     let terms = (and_true (same_terms a b) (same_addresses a.dns b.dns) (and_true (same_terms a b && same_addresses a.dns b.dns) (same_options a.options b.options) h).0).0 in
     let parts = last_three (eqb a.server.address b.server.address && eqb a.server.identifier b.server.identifier) (eqb a.address b.address) (eqb a.prefix b.prefix) (same_router a.router b.router) terms in
-    let cidr = same_cidr_lem (Cidr a.address a.prefix) (Cidr b.address b.prefix) (rw (parts.0, parts.1) refl) in
+    let cidr = same_cidr_lem (installed a).address (installed b).address (rw (parts.0, parts.1) refl) in
     let way = same_router_lem a.router b.router parts.2 in
     λ i. record { address = cidr i; router = way i }
 
@@ -125,7 +125,7 @@ pub record Given (bytes : List ℕ) (i : Installed) : Type 0 where
   pub address : ℕ
   pub prefix : ℕ
   pub reads : Reads bytes address prefix
-  pub is : i ≡ record { address = Cidr address prefix; router = router bytes }
+  pub is : i ≡ record { address = Some (record { address = address; prefix = prefix }); router = router bytes }
 
 module _ (c : Client) (t : Tables) (bytes : List ℕ) (now : Instant) where
   -- What a reply is to the client and its tables.
@@ -144,8 +144,8 @@ module _ (c : Client) (t : Tables) (bytes : List ℕ) (now : Instant) where
   unfolding bound_by
   bound s = refl
 
-  abbrev Acks : Acked → Settled → Type 0
-  Acks a s = (s.client.session.state ≡ bound_by c.settings bytes now) × (gives s.client ≡ record { address = Cidr a.address a.prefix; router = router bytes })
+  abbrev Acks : Acked → Settled Bool → Type 0
+  Acks a s = (s.client.session.state ≡ bound_by c.settings bytes now) × (gives s.client ≡ record { address = Some (record { address = a.address; prefix = a.prefix }); router = router bytes })
       × Settles c t s.client s.tables
 
   acked_settles : (a : Acked) → Acks a (acked c t bytes now a)
@@ -158,7 +158,7 @@ module _ (c : Client) (t : Tables) (bytes : List ℕ) (now : Instant) where
       state : ClientState
       state = bound_by c.settings bytes now
 
-      same : holds c.session.state c.lease lease ≡ true → Acks a (record { client = with_session c (in_state c.session state); tables = t; purge = false })
+      same : holds c.session.state c.lease lease ≡ true → Acks a (record { client = with_session c (in_state c.session state); tables = t; outcome = false })
       same e =
           let h = both_true (has_lease c.session.state) e in
           let g = gives_lease state c.lease (bound c.settings) in
@@ -169,19 +169,19 @@ module _ (c : Client) (t : Tables) (bytes : List ℕ) (now : Instant) where
           let g = gives_lease state lease (bound c.settings) in
           (refl, g, settles_by (gives c) (installed lease) refl refl g (entered_applied t (installed lease) (gives c)))
 
-  verdict_effect : (v : Verdict) → Says c.session.state bytes v → Effect (replied c t bytes now v)
+  verdict_effect : (v : Result Verdict PassedOver) → Says c.session.state bytes v → Effect (replied c t bytes now v)
   unfolding replied
-  verdict_effect (Offer o) h = (
+  verdict_effect (Ok (Offer o)) h = (
     offered refl h.0 h.1 h.2 (λ u e. record { until = u; from = omega arith; most = omega arith; shows = requesting-shows e }),
     settles_by nothing nothing refl (gives_nothing c.session.state c.lease h.1) (gives_nothing (requesting o.server o.address now) c.lease refl) (entered_same t nothing),
   )
-  verdict_effect (Ack a) h =
+  verdict_effect (Ok (Ack a)) h =
       let k = acked_settles a in
       (was_acked refl h.0 h.2 k.0 (record { address = a.address; prefix = a.prefix; reads = h.1; is = k.1 }), k.2)
-  verdict_effect Nak h =
+  verdict_effect (Ok Nak) h =
       let k = cleared_settles c t in
       (was_cleared refl h k.0, k.1)
-  verdict_effect (PassedOver n) h = (unmoved refl refl refl, settles_same c t)
+  verdict_effect (Err n) h = (unmoved refl refl refl, settles_same c t)
 
   pub reply_effect : (source : ℕ) → Became (processed c t source bytes now) × Settles c t (processed c t source bytes now).client (processed c t source bytes now).tables
   unfolding processed

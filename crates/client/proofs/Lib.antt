@@ -1,5 +1,3 @@
-pub mod Made
-pub mod Settling
 pub mod Wholes
 pub mod Unchanged
 pub mod Effects

@@ -1,8 +1,9 @@
 -- A poll by its outcome: what is refused leaves all as it came; a message is no longer than the MTU allows, and a whole client
 -- stays whole under it. Assumes nothing.
+use Rattle.std.proofs.Common.{Option, None, Some, Result, Ok, Err}
 use Prim.Native.Nat.{ℕ, ◌-◌, ◌≤◌, ◌<◌}
 use mathlib.Core.Path.{◌≡◌, refl, sym, ap, ◌∙◌}
-use mathlib.Core.Bool.{Bool, true, false, not, false≢true}
+use mathlib.Core.Bool.{true, not}
 use mathlib.Core.List.{List}
 use lib.ListN.{length}
 use Rattle.choice.proofs.Choices.{if_true, if_false, if_cases}
@@ -14,8 +15,6 @@ use Rattle.machine.specs.Decisions.{decided}
 use Rattle.machine.specs.declared.state.ClientState.TheVariants.{Discovering, Requesting, Renewing}
 use Rattle.machine.specs.declared.decide.Sending.{Sending}
 use Rattle.machine.specs.declared.decide.Sending.TheVariants.{Discover, Request, Renew}
-use Rattle.machine.specs.declared.decide.Due.{Due}
-use Rattle.machine.specs.declared.decide.Due.TheVariants.{Nothing, Send}
 use Rattle.tables.specs.declared.tables.Tables.{Tables}
 use Rattle.lease.specs.Leases.{whole_lease}
 use Rattle.sending.proofs.Sendings.{datagram_fits as message-fits}
@@ -24,26 +23,26 @@ use Rattle.client.specs.Resets.{cleared}
 use Rattle.client.specs.Polls.{PolledInto, id_of, datagram_of, awaiting, moved, refused_by, passed_by, too_short, sent, polled_as, polled_by, polled_with}
 use Rattle.client.specs.declared.client.Client.{Client}
 use Rattle.client.specs.declared.poll.PollAnswer.{PollAnswer}
-use Rattle.client.specs.declared.poll.PollOutcome.{PollOutcome}
-use Rattle.client.specs.declared.poll.PollOutcome.TheVariants.{Answered, Refused}
 use Rattle.client.proofs.Wholes.{settings_whole, lease_fits_lem, unread_fits, read_fits, parts_whole, all_whole, all_parts, cleared_whole}
 use Rattle.client.proofs.Effects.{Fitting}
+use Rattle.reasons.specs.declared.refusal.Refusal.{Refusal}
+use Rattle.reasons.specs.declared.refusal.Refusal.TheVariants.{ShortBuffer, NotWhole}
 
 module _ (c : Client) (t : Tables) (g : Rand) (b : List ℕ) where
   -- what holds of a refusal, of a poll with nothing due and of one that sends, holds of a poll
-  pub sent_cases : (P : PolledInto → Type 0) → P (refused_by c t g b 8) → (m : Instant) (s : Sending) → P (moved c t g b m s) → P (sent c t g b m s)
+  pub sent_cases : (P : PolledInto → Type 0) → P (refused_by c t g b ShortBuffer) → (m : Instant) (s : Sending) → P (moved c t g b m s) → P (sent c t g b m s)
   unfolding sent
   sent_cases P r m s f = if_cases P (too_short b (length (datagram_of c g s))) (λ e. r) (λ e. f)
 
-  pub polled_cases : (P : PolledInto → Type 0) → ((n : ℕ) → P (refused_by c t g b n)) → ((m : Instant) → P (passed_by c t g b m)) → ((m : Instant) (s : Sending) → P (moved c t g b m s))
+  pub polled_cases : (P : PolledInto → Type 0) → ((n : Refusal) → P (refused_by c t g b n)) → ((m : Instant) → P (passed_by c t g b m)) → ((m : Instant) (s : Sending) → P (moved c t g b m s))
       → (w : Waits) (now : Instant) → P (polled_with w c t g now b)
   unfolding polled_with
   polled_cases P r p f w now =
-      if_cases P (not (whole_all c t)) (λ e. r 9) (λ e. by (decided w c.session.state now.millis).due (decided w c.session.state now.millis).wake)
+      if_cases P (not (whole_all c t)) (λ e. r NotWhole) (λ e. by (decided w c.session.state now.millis).due (decided w c.session.state now.millis).wake)
     where
-      by : (d : Due) (m : Instant) → P (polled_as c t g b m d)
-      by Nothing m = p m
-      by (Send s) m = sent_cases P (r 8) m s (f m s)
+      by : (d : Option Sending) (m : Instant) → P (polled_as c t g b m d)
+      by None m = p m
+      by (Some s) m = sent_cases P (r ShortBuffer) m s (f m s)
 
   -- The poll of a client and tables that are whole.
   pub polled_whole : whole_all c t ≡ true → (w : Waits) (now : Instant) → polled_with w c t g now b ≡ polled_by c t g b (decided w c.session.state now.millis)
@@ -51,19 +50,15 @@ module _ (c : Client) (t : Tables) (g : Rand) (b : List ℕ) where
   polled_whole h w now = sym (if_false _ (ap not h) refl)
 
   -- A poll that is refused leaves all as it came, the lent buffer too.
-  pub poll_kept : (w : Waits) (now : Instant) (n : ℕ) → (polled_with w c t g now b).polled.outcome ≡ Refused n
+  pub poll_kept : (w : Waits) (now : Instant) (n : Refusal) → (polled_with w c t g now b).polled.outcome ≡ Err n
       → ((polled_with w c t g now b).polled.client ≡ c) × ((polled_with w c t g now b).polled.tables ≡ t) × ((polled_with w c t g now b).polled.rand ≡ g) × ((polled_with w c t g now b).buffer ≡ b)
   poll_kept w now n = polled_cases Kept (λ m e. (refl, refl, refl, refl)) (λ m e. absurd (answered e)) (λ m s e. absurd (answered e)) w now
     where
       Kept : PolledInto → Type 0
-      Kept r = r.polled.outcome ≡ Refused n → (r.polled.client ≡ c) × (r.polled.tables ≡ t) × (r.polled.rand ≡ g) × (r.buffer ≡ b)
+      Kept r = r.polled.outcome ≡ Err n → (r.polled.client ≡ c) × (r.polled.tables ≡ t) × (r.polled.rand ≡ g) × (r.buffer ≡ b)
 
-      is_refused : PollOutcome → Bool
-      is_refused (Answered a) = false
-      is_refused (Refused m) = true
-
-      answered : {a : PollAnswer} → Answered a ≡ Refused n → ⊥
-      answered e = false≢true (ap is_refused e)
+      answered : {a : PollAnswer} → ◌≡◌ {A = Result PollAnswer Refusal} (Ok a) (Err n) → ⊥
+      answered e = cc
 
 -- A message has from 1 to MTU − 20 octets, the UDP header among them.
 pub datagram_fits : (c : Client) → whole_client c ≡ true → (g : Rand) (s : Sending) → (0 < length (datagram_of c g s)) × (length (datagram_of c g s) ≤ c.settings.mtu - 20)

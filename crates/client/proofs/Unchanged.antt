@@ -1,4 +1,5 @@
 -- What is not taken changes nothing: a reply that is passed over, a call that is refused. Assumes nothing.
+use Rattle.std.proofs.Common.{Result, Ok, Err}
 use Prim.Native.Nat.{ℕ}
 use mathlib.Core.Path.{◌≡◌, refl, sym, ap, ◌∙◌}
 use mathlib.Core.Bool.{Bool, true, false, not, false≢true}
@@ -12,34 +13,33 @@ use Rattle.judge.specs.Judged.{judged}
 use Rattle.client.specs.Taken.{recipient_of, replied, processed}
 use Rattle.client.specs.declared.client.Client.{Client}
 use Rattle.judge.specs.declared.judge.Verdict.{Verdict}
-use Rattle.judge.specs.declared.judge.Verdict.TheVariants.{Offer, Ack, Nak, PassedOver}
-use Rattle.client.specs.declared.reset.WasReset.{WasReset}
-use Rattle.client.specs.declared.reset.ResetOutcome.{ResetOutcome}
-use Rattle.client.specs.declared.reset.ResetOutcome.TheVariants as reset
-use Rattle.client.specs.declared.process.Processed.{Processed}
-use Rattle.client.specs.declared.process.ReplyOutcome.{ReplyOutcome}
-use Rattle.client.specs.declared.process.ReplyOutcome.TheVariants as reply
+use Rattle.judge.specs.declared.judge.Verdict.TheVariants.{Offer, Ack, Nak}
+use Rattle.reasons.specs.declared.passed_over.PassedOver.{PassedOver}
+use Rattle.client.specs.Outcomes.{WasReset}
+use Rattle.client.specs.Outcomes.{Processed}
+use Rattle.reasons.specs.declared.refusal.Refusal.{Refusal}
+use Rattle.client.specs.declared.process.NotTaken.{NotTaken}
+use Rattle.client.specs.declared.process.NotTaken.TheVariants.{Refused}
 
 -- whether a reply was taken, and a reset made
-abbrev pub was_taken : ReplyOutcome → Bool
-was_taken (reply.Taken purge) = true
-was_taken (reply.PassedOver n) = false
-was_taken (reply.Refused n) = false
+abbrev pub was_taken : Result Bool NotTaken → Bool
+was_taken (Ok purge) = true
+was_taken (Err why) = false
 
-abbrev pub was_made : ResetOutcome → Bool
-was_made (reset.Done purge) = true
-was_made (reset.Refused n) = false
+abbrev pub was_made : Result Bool Refusal → Bool
+was_made (Ok purge) = true
+was_made (Err n) = false
 
 module _ (c : Client) (t : Tables) where
   abbrev Kept : Processed → Type 0
   Kept p = was_taken p.outcome ≡ false → (p.client ≡ c) × (p.tables ≡ t)
 
-  verdict_kept : (bytes : List ℕ) (moment : Instant) (v : Verdict) → Kept (replied c t bytes moment v)
+  verdict_kept : (bytes : List ℕ) (moment : Instant) (v : Result Verdict PassedOver) → Kept (replied c t bytes moment v)
   unfolding replied
-  verdict_kept bytes moment (Offer o) e = absurd (false≢true (sym e))
-  verdict_kept bytes moment (Ack a) e = absurd (false≢true (sym e))
-  verdict_kept bytes moment Nak e = absurd (false≢true (sym e))
-  verdict_kept bytes moment (PassedOver n) e = (refl, refl)
+  verdict_kept bytes moment (Ok (Offer o)) e = absurd (false≢true (sym e))
+  verdict_kept bytes moment (Ok (Ack a)) e = absurd (false≢true (sym e))
+  verdict_kept bytes moment (Ok Nak) e = absurd (false≢true (sym e))
+  verdict_kept bytes moment (Err reason) e = (refl, refl)
 
   pub untaken_kept : (source : ℕ) (bytes : List ℕ) (moment : Instant) → Kept (processed c t source bytes moment)
   unfolding processed
@@ -54,19 +54,14 @@ module _ (c : Client) (t : Tables) where
 
   -- Where client and tables are whole, no reply and no reset is refused.
   abbrev Unrefused : Processed → Type 0
-  Unrefused p = (n : ℕ) → p.outcome ≡ reply.Refused n → ⊥
+  Unrefused p = (n : Refusal) → p.outcome ≡ Err (Refused n) → ⊥
 
-  refusal : ReplyOutcome → Bool
-  refusal (reply.Taken purge) = false
-  refusal (reply.PassedOver n) = false
-  refusal (reply.Refused n) = true
-
-  verdict_answered : (bytes : List ℕ) (moment : Instant) (v : Verdict) → Unrefused (replied c t bytes moment v)
-  unfolding replied refusal
-  verdict_answered bytes moment (Offer o) n e = false≢true (ap refusal e)
-  verdict_answered bytes moment (Ack a) n e = false≢true (ap refusal e)
-  verdict_answered bytes moment Nak n e = false≢true (ap refusal e)
-  verdict_answered bytes moment (PassedOver m) n e = false≢true (ap refusal e)
+  verdict_answered : (bytes : List ℕ) (moment : Instant) (v : Result Verdict PassedOver) → Unrefused (replied c t bytes moment v)
+  unfolding replied
+  verdict_answered bytes moment (Ok (Offer o)) n e = cc
+  verdict_answered bytes moment (Ok (Ack a)) n e = cc
+  verdict_answered bytes moment (Ok Nak) n e = cc
+  verdict_answered bytes moment (Err m) n e = cc
 
   pub reply_answered : whole_all c t ≡ true → (source : ℕ) (bytes : List ℕ) (moment : Instant) → Unrefused (processed c t source bytes moment)
   unfolding processed

@@ -1,9 +1,10 @@
 -- A whole client with whole tables stays whole, whatever call is made on it. Assumes nothing.
+use Rattle.std.proofs.Common.{Option, Result, Ok, Err}
+use Rattle.std.proofs.Common.{None, Some}
 use Prim.Native.Nat.{ℕ, ◌≤◌}
-use mathlib.Core.Path.{◌≡◌, refl, sym, ap, ◌∙◌}
+use mathlib.Core.Path.{◌≡◌, refl, sym, ap, ◌∙◌, subst}
 use mathlib.Core.Bool.{Bool, true, false, not, ◌&&◌}
 use mathlib.Core.List.{List, []}
-use mathlib.Core.Option.{Option, none, some}
 use native.Mathlib.Omega.{arith}
 use lib.ListN.{length-take}
 use borrow.Author.Tests.{le-ltb, le-leb}
@@ -11,8 +12,6 @@ use Rattle.choice.specs.Choice.{when◌then◌else◌}
 use Rattle.choice.proofs.Choices.{if_true, if_false, if_cases, both_true}
 use Rattle.clock.specs.declared.instant.Instant.{Instant}
 use Rattle.octets.specs.Codes.{dns_code}
-use Rattle.octets.specs.declared.number.MaybeNumber.{MaybeNumber}
-use Rattle.octets.specs.declared.number.MaybeNumber.TheVariants.{None, Some}
 use Rattle.wire.specs.Options.{option_data}
 use Rattle.wire.specs.Readings.{addresses_of, unicast_ones, groups_of}
 use Rattle.wire.proofs.Stores.{store_sound}
@@ -28,7 +27,7 @@ use Rattle.tables.proofs.Origins.{whole_applied}
 use Rattle.tables.proofs.Lists.{all_takes}
 use Rattle.settings.specs.Settings.{refusal_of}
 use Rattle.lease.specs.Leases.{no_lease, lease_of, whole_lease, installed, nothing}
-use Rattle.client.specs.Clients.{in_state, with_session, fresh, created, lease_fits, whole_or, whole_client, whole_all}
+use Rattle.client.specs.Clients.{in_state, with_session, fresh, created_or, created, lease_fits, whole_or, whole_client, whole_all}
 use Rattle.client.specs.Resets.{restarted, dropped, cleared, was_reset}
 use Rattle.judge.specs.Judged.{judged}
 use Rattle.judge.proofs.Judging.{Fits, judged_fits}
@@ -40,15 +39,17 @@ use Rattle.client.specs.declared.client.Session.{Session}
 use Rattle.client.specs.declared.client.Client.{Client}
 use Rattle.judge.specs.declared.judge.Acked.{Acked}
 use Rattle.judge.specs.declared.judge.Verdict.{Verdict}
-use Rattle.judge.specs.declared.judge.Verdict.TheVariants.{Offer, Ack, Nak, PassedOver}
-use Rattle.client.specs.declared.reset.Settled.{Settled}
-use Rattle.client.specs.declared.reset.WasReset.{WasReset}
-use Rattle.client.specs.declared.process.Processed.{Processed}
+use Rattle.judge.specs.declared.judge.Verdict.TheVariants.{Offer, Ack, Nak}
+use Rattle.reasons.specs.declared.passed_over.PassedOver.{PassedOver}
+use Rattle.reasons.specs.declared.refusal.Refusal.{Refusal}
+use Rattle.client.specs.declared.client.Settled.{Settled}
+use Rattle.client.specs.Outcomes.{WasReset}
+use Rattle.client.specs.Outcomes.{Processed}
 
 -- the lease of such an ACK is whole
 few_addresses : (body : Option (List ℕ)) → (addresses_of body).count ≤ 3
-few_addresses none = omega arith
-few_addresses (some body) = rw (length-take 3 (unicast_ones (groups_of body))) (omega arith)
+few_addresses None = omega arith
+few_addresses (Some body) = rw (length-take 3 (unicast_ones (groups_of body))) (omega arith)
 
 lease_whole : (server : DhcpServerInfo) (address prefix : ℕ) (reply : List ℕ) → prefix ≤ 32 → whole_lease (lease_of server address prefix reply) ≡ true
 unfolding whole_lease
@@ -60,7 +61,7 @@ pub settings_whole : (c : Client) → whole_client c ≡ true → refusal_of c.s
 unfolding whole_client
 settings_whole c = step (refusal_of c.settings)
   where
-    step : (m : MaybeNumber) → whole_or m (lease_fits c.session.state c.lease) ≡ true → m ≡ None
+    step : (m : Option Refusal) → whole_or m (lease_fits c.session.state c.lease) ≡ true → m ≡ None
     step None h = refl
     step (Some n) h = cc
 
@@ -68,7 +69,7 @@ pub lease_fits_lem : (c : Client) → whole_client c ≡ true → lease_fits c.s
 unfolding whole_client
 lease_fits_lem c = step (refusal_of c.settings)
   where
-    step : (m : MaybeNumber) → whole_or m (lease_fits c.session.state c.lease) ≡ true → lease_fits c.session.state c.lease ≡ true
+    step : (m : Option Refusal) → whole_or m (lease_fits c.session.state c.lease) ≡ true → lease_fits c.session.state c.lease ≡ true
     step None h = h
     step (Some n) h = cc
 
@@ -104,11 +105,17 @@ unfolding whole_all
 tested c t {a} {b} e f = both_tests a b ∙ ap (λ x. when x then b else false) e ∙ ap (λ x. when whole_client c then x else false) f
 
 -- Creation returns a whole client.
-pub created_whole : (s : Settings) (ignoring : Bool) → refusal_of s ≡ None → whole_client (created s ignoring).client ≡ true
+pub created_whole : (s : Settings) (ignoring : Bool) {c : Client} → created s ignoring ≡ Ok c → whole_client c ≡ true
 unfolding created
-created_whole s ignoring e = rw e (parts_whole (fresh s ignoring) e (unread_fits Init no_lease refl))
+created_whole s ignoring = by (refusal_of s) refl
+  where
+    by : (m : Option Refusal) → refusal_of s ≡ m → {c : Client} → created_or m s ignoring ≡ Ok c → whole_client c ≡ true
+    by None e {c} h =
+        let same : fresh s ignoring ≡ c = cc in
+        subst (λ (x : Client). whole_client x ≡ true) same (parts_whole (fresh s ignoring) e (unread_fits Init no_lease refl))
+    by (Some reason) e h = cc
 
-abbrev pub Whole : Settled → Type 0
+abbrev pub Whole : Settled Bool → Type 0
 Whole s = whole_all s.client s.tables ≡ true
 
 module _ (c : Client) (t : Tables) (h : whole_all c t ≡ true) where
@@ -148,7 +155,7 @@ module _ (c : Client) (t : Tables) (h : whole_all c t ≡ true) where
       fits : whole_lease lease ≡ true
       fits = lease_whole (server_of c.session.state c.lease ack.server) ack.address ack.prefix reply p
 
-      same : holds c.session.state c.lease lease ≡ true → Whole (record { client = with_session c session; tables = t; purge = false })
+      same : holds c.session.state c.lease lease ≡ true → Whole (record { client = with_session c session; tables = t; outcome = false })
       same e = all_whole (with_session c session) t (parts_whole (with_session c session) sound (read_fits state c.lease refl (held_whole c.session.state c.lease lease e (lease_fits_lem c (all_parts c t h).0)))) tables_whole
 
       other : holds c.session.state c.lease lease ≡ false → Whole (entered c t session lease)
@@ -156,12 +163,12 @@ module _ (c : Client) (t : Tables) (h : whole_all c t ≡ true) where
           all_whole (entered c t session lease).client (entered c t session lease).tables (parts_whole (entered c t session lease).client sound (read_fits state lease refl fits))
           (whole_applied t (installed lease) (held_by c.session.state c.lease) (all_takes addr_fits (leased_addr ack.address ack.prefix) [] (le-leb _ _ p)) tables_whole)
 
-  reply_whole : (reply : List ℕ) (moment : Instant) (v : Verdict) → Fits v → whole_all (replied c t reply moment v).client (replied c t reply moment v).tables ≡ true
+  reply_whole : (reply : List ℕ) (moment : Instant) (v : Result Verdict PassedOver) → Fits v → whole_all (replied c t reply moment v).client (replied c t reply moment v).tables ≡ true
   unfolding replied
-  reply_whole reply moment (Offer o) f = all_whole (offered c t moment o).client t (parts_whole (offered c t moment o).client sound (unread_fits (offered c t moment o).client.session.state c.lease refl)) tables_whole
-  reply_whole reply moment (Ack a) f = acked_whole reply moment a f
-  reply_whole reply moment Nak f = cleared_whole
-  reply_whole reply moment (PassedOver n) f = h
+  reply_whole reply moment (Ok (Offer o)) f = all_whole (offered c t moment o).client t (parts_whole (offered c t moment o).client sound (unread_fits (offered c t moment o).client.session.state c.lease refl)) tables_whole
+  reply_whole reply moment (Ok (Ack a)) f = acked_whole reply moment a f
+  reply_whole reply moment (Ok Nak) f = cleared_whole
+  reply_whole reply moment (Err n) f = h
 
   -- A reply of any bytes, from any source, at any moment.
   pub processed_whole : (source : ℕ) (reply : List ℕ) (moment : Instant)

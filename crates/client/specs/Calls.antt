@@ -1,6 +1,6 @@
 -- The calls of a client and its tables, as one set, `calls`: the contracts of the client's calls cite it, those of the manual
 -- calls the definitions of tables that it is made of, and demand 3 speaks of it.
-use Rattle.std.specs.Prelude.{ℕ, Bool, List}
+use Rattle.std.specs.Prelude.{ℕ, Bool, List, Result}
 use Rattle.clock.specs.declared.instant.Instant.{Instant}
 use Rattle.clock.specs.declared.rand.Rand.{Rand}
 use Rattle.clock.specs.declared.waits.Waits.{Waits}
@@ -13,9 +13,8 @@ use Rattle.client.specs.Resets.{was_reset}
 use Rattle.client.specs.Taken.{processed}
 use Rattle.client.specs.Polls.{PolledInto, polled_with, polled}
 use Rattle.client.specs.declared.client.Client.{Client}
-use Rattle.client.specs.declared.client.Created.{Created}
-use Rattle.client.specs.declared.process.Processed.{Processed}
-use Rattle.client.specs.declared.reset.WasReset.{WasReset}
+use Rattle.client.specs.Outcomes.{Processed, WasReset}
+use Rattle.reasons.specs.declared.refusal.Refusal.{Refusal}
 
 -- The manual calls.
 pub data Manual : Type 0 where
@@ -27,7 +26,7 @@ pub data Manual : Type 0 where
 -- A set of calls: what each does, on any client, tables, generator and moment. A look-up hands back nothing that it could
 -- have changed, so there is nothing of it here.
 pub record Calls : Type 0 where
-  pub create : Settings → Bool → Created
+  pub create : Settings → Bool → Result Client Refusal
   pub poll : Client → Tables → Rand → Instant → List ℕ → PolledInto
   pub process : Client → Tables → ℕ → List ℕ → Instant → Processed
   pub reset : Client → Tables → WasReset

@@ -1,13 +1,10 @@
 -- The client, its creation, and number 9.
-use Rattle.std.specs.Prelude.{Bool, true, false}
+use Rattle.std.specs.Prelude.{Bool, true, false, Option, None, Some, Result, Ok, Err, ⊤}
 use Rattle.choice.specs.Choice.{when◌then◌else◌}
-use Rattle.octets.specs.declared.number.MaybeNumber.{MaybeNumber}
-use Rattle.octets.specs.declared.number.MaybeNumber.TheVariants.{None, Some}
 use Rattle.machine.specs.States.{has_lease}
 use Rattle.machine.specs.declared.state.ClientState.{ClientState}
 use Rattle.machine.specs.declared.state.ClientState.TheVariants.{Init}
 use Rattle.tables.specs.Tables.{whole_tables}
-use Rattle.tables.specs.declared.outcome.Outcome.TheVariants.{Done, Refused}
 use Rattle.tables.specs.declared.tables.Tables.{Tables}
 use Rattle.settings.specs.Settings.{no_settings, refusal_of}
 use Rattle.lease.specs.Leases.{no_lease, whole_lease}
@@ -15,7 +12,8 @@ use Rattle.settings.specs.declared.settings.Settings.{Settings}
 use Rattle.lease.specs.declared.lease.DhcpLease.{DhcpLease}
 use Rattle.client.specs.declared.client.Session.{Session}
 use Rattle.client.specs.declared.client.Client.{Client}
-use Rattle.client.specs.declared.client.Created.{Created}
+use Rattle.reasons.specs.declared.refusal.Refusal.{Refusal}
+use Rattle.reasons.specs.declared.refusal.Refusal.TheVariants.{NotWhole}
 
 -- The client with another session and another lease, and all else as it is.
 abbrev pub with_lease : Client → Session → DhcpLease → Client
@@ -38,7 +36,7 @@ fresh settings ignoring = record {
   lease = no_lease;
 }
 
--- All zero, where creation is refused.
+-- All zero.
 abbrev pub no_client : Client
 no_client = record {
   settings = no_settings;
@@ -48,11 +46,11 @@ no_client = record {
 }
 
 -- Creation: 1 to 7, in that order.
-abbrev pub created_or : MaybeNumber → Settings → Bool → Created
-created_or None settings ignoring = record { client = fresh settings ignoring; outcome = Done }
-created_or (Some number) settings ignoring = record { client = no_client; outcome = Refused number }
+abbrev pub created_or : Option Refusal → Settings → Bool → Result Client Refusal
+created_or None settings ignoring = Ok (fresh settings ignoring)
+created_or (Some refusal) settings ignoring = Err refusal
 
-unfoldable pub created : Settings → Bool → Created
+unfoldable pub created : Settings → Bool → Result Client Refusal
 created settings ignoring = created_or (refusal_of settings) settings ignoring
 
 -- The lease is read in Renewing alone.
@@ -60,12 +58,15 @@ unfoldable pub lease_fits : ClientState → DhcpLease → Bool
 lease_fits state lease = when has_lease state then whole_lease lease else true
 
 -- 9, of a client: a setting that 1 to 7 refuse, or a lease that is read and is not whole.
-abbrev pub whole_or : MaybeNumber → Bool → Bool
+abbrev pub whole_or : Option Refusal → Bool → Bool
 whole_or None fits = fits
-whole_or (Some number) fits = false
+whole_or (Some refusal) fits = false
 
 unfoldable pub whole_client : Client → Bool
 whole_client c = whole_or (refusal_of c.settings) (lease_fits c.session.state c.lease)
+
+unfoldable pub checked : Client → Result ⊤ Refusal
+checked c = when whole_client c then Ok tt else Err NotWhole
 
 -- 9, of a client and its tables: what every call on the two tests first.
 unfoldable pub whole_all : Client → Tables → Bool

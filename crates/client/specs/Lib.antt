@@ -1,3 +1,4 @@
+pub mod Outcomes
 pub mod Clients
 pub mod Resets
 pub mod Taken

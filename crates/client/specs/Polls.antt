@@ -1,18 +1,18 @@
 -- A poll (document 01, "Polling"): what is due, its message, its length; then it is refused, passed by, or written. `polled`,
 -- the last definition, is the whole.
-use Rattle.std.specs.Prelude.{ℕ, Bool, false, not, List, [], ◌∷◌, length, ltb}
+use Rattle.std.specs.Prelude.{ℕ, Bool, false, not, List, [], ◌∷◌, length, ltb, Option, None, Some, Ok, Err}
 use Rattle.choice.specs.Choice.{when◌then◌else◌}
 use Rattle.clock.specs.declared.instant.Instant.{Instant}
 use Rattle.clock.specs.declared.rand.Rand.{Rand}
-use Rattle.clock.specs.declared.rand.Drawn32.{Drawn32}
+use Rattle.clock.specs.declared.rand.Drawn.{Drawn}
 use Rattle.clock.specs.declared.waits.Waits.{Waits}
+use Rattle.reasons.specs.declared.refusal.Refusal.{Refusal}
+use Rattle.reasons.specs.declared.refusal.Refusal.TheVariants.{ShortBuffer, NotWhole}
 use Rattle.octets.specs.Runs.{over}
 use Rattle.message.specs.declared.datagram.Endpoints.{Endpoints}
 use Rattle.machine.specs.Decisions.{decided, following}
 use Rattle.machine.specs.declared.decide.Sending.{Sending}
 use Rattle.machine.specs.declared.decide.Sending.TheVariants.{Discover, Request, Renew}
-use Rattle.machine.specs.declared.decide.Due.{Due}
-use Rattle.machine.specs.declared.decide.Due.TheVariants.{Nothing, Send}
 use Rattle.machine.specs.declared.decide.Decision.{Decision}
 use Rattle.tables.specs.declared.tables.Tables.{Tables}
 use Rattle.settings.specs.Settings.{waits_of}
@@ -21,9 +21,8 @@ use Rattle.client.specs.Clients.{with_session, whole_all}
 use Rattle.client.specs.Resets.{cleared}
 use Rattle.client.specs.declared.client.Session.{Session}
 use Rattle.client.specs.declared.client.Client.{Client}
-use Rattle.client.specs.declared.reset.Settled.{Settled}
+use Rattle.client.specs.declared.client.Settled.{Settled}
 use Rattle.client.specs.declared.poll.PollAnswer.{PollAnswer}
-use Rattle.client.specs.declared.poll.PollOutcome.TheVariants.{Answered, Refused}
 use Rattle.client.specs.declared.poll.Polled.{Polled}
 
 -- The id of the client's message, and its datagram.
@@ -34,10 +33,10 @@ abbrev pub datagram_of : Client → Rand → Sending → List ℕ
 datagram_of c g sending = datagram_for c.settings c.lease (id_of c g sending) sending
 
 -- The client and its tables before the message is sent: a lease that is held is dropped where the client discovers.
-abbrev pub kept : Client → Tables → Settled
-kept c t = record { client = c; tables = t; purge = false }
+abbrev pub kept : Client → Tables → Settled Bool
+kept c t = record { client = c; tables = t; outcome = false }
 
-abbrev pub made_ready : Client → Tables → Sending → Settled
+abbrev pub made_ready : Client → Tables → Sending → Settled Bool
 made_ready c t (Discover s) = cleared c t
 made_ready c t (Request s) = kept c t
 made_ready c t (Renew s) = kept c t
@@ -52,11 +51,11 @@ pub record PolledInto : Type 0 where
   pub buffer : List ℕ
 
 -- A refusal: all is as it came.
-abbrev pub refusal : Client → Tables → Rand → ℕ → Polled
-refusal c t g number = record { client = c; tables = t; rand = g; outcome = Refused number }
+abbrev pub refusal : Client → Tables → Rand → Refusal → Polled
+refusal c t g reason = record { client = c; tables = t; rand = g; outcome = Err reason }
 
-abbrev pub refused_by : Client → Tables → Rand → List ℕ → ℕ → PolledInto
-refused_by c t g buffer number = record { polled = refusal c t g number; buffer = buffer }
+abbrev pub refused_by : Client → Tables → Rand → List ℕ → Refusal → PolledInto
+refused_by c t g buffer reason = record { polled = refusal c t g reason; buffer = buffer }
 
 -- Nothing is due: all is as it came, "length, source and destination address (all 0 if none was built)".
 abbrev pub silent : Instant → PollAnswer
@@ -64,7 +63,7 @@ silent wake = record { length = 0; source = 0; destination = 0; wake = wake; pur
 
 abbrev pub passed_by : Client → Tables → Rand → List ℕ → Instant → PolledInto
 passed_by c t g buffer wake = record {
-  polled = record { client = c; tables = t; rand = g; outcome = Answered (silent wake) };
+  polled = record { client = c; tables = t; rand = g; outcome = Ok (silent wake) };
   buffer = buffer;
 }
 
@@ -92,12 +91,12 @@ purging answer purge = record {
   purge = purge;
 }
 
-abbrev pub settled_by : Client → Tables → Drawn32 → Sending → PollAnswer → Polled
+abbrev pub settled_by : Client → Tables → Drawn ℕ → Sending → PollAnswer → Polled
 settled_by c t drawn sending answer = record {
   client = with_session (made_ready c t sending).client (awaiting sending drawn.value);
   tables = (made_ready c t sending).tables;
   rand = drawn.rand;
-  outcome = Answered (purging answer (made_ready c t sending).purge);
+  outcome = Ok (purging answer (made_ready c t sending).outcome);
 }
 
 abbrev pub moved : Client → Tables → Rand → List ℕ → Instant → Sending → PolledInto
@@ -113,12 +112,12 @@ too_short (x ∷ xs) size = ltb (length (x ∷ xs)) size
 
 unfoldable pub sent : Client → Tables → Rand → List ℕ → Instant → Sending → PolledInto
 sent c t g buffer wake sending =
-    when too_short buffer (length (datagram_of c g sending)) then refused_by c t g buffer 8
+    when too_short buffer (length (datagram_of c g sending)) then refused_by c t g buffer ShortBuffer
     else moved c t g buffer wake sending
 
-abbrev pub polled_as : Client → Tables → Rand → List ℕ → Instant → Due → PolledInto
-polled_as c t g buffer wake Nothing = passed_by c t g buffer wake
-polled_as c t g buffer wake (Send sending) = sent c t g buffer wake sending
+abbrev pub polled_as : Client → Tables → Rand → List ℕ → Instant → Option Sending → PolledInto
+polled_as c t g buffer wake None = passed_by c t g buffer wake
+polled_as c t g buffer wake (Some sending) = sent c t g buffer wake sending
 
 abbrev pub polled_by : Client → Tables → Rand → List ℕ → Decision → PolledInto
 polled_by c t g buffer decision = polled_as c t g buffer decision.wake decision.due
@@ -126,7 +125,7 @@ polled_by c t g buffer decision = polled_as c t g buffer decision.wake decision.
 -- The call with any waits: 9 first.
 unfoldable pub polled_with : Waits → Client → Tables → Rand → Instant → List ℕ → PolledInto
 polled_with w c t g now buffer =
-    when not (whole_all c t) then refused_by c t g buffer 9
+    when not (whole_all c t) then refused_by c t g buffer NotWhole
     else polled_by c t g buffer (decided w c.session.state now.millis)
 
 -- The call, with the client's own waits.

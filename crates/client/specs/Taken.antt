@@ -1,7 +1,9 @@
 -- What a reply that is taken does to the client and its tables (document 01, "Reading a reply").
-use Rattle.std.specs.Prelude.{ℕ, Bool, false, not, List}
+use Rattle.std.specs.Prelude.{ℕ, Bool, false, not, List, Result, Ok, Err}
 use Rattle.choice.specs.Choice.{when◌then◌else◌}
 use Rattle.clock.specs.declared.instant.Instant.{Instant}
+use Rattle.reasons.specs.declared.passed_over.PassedOver.{PassedOver}
+use Rattle.reasons.specs.declared.refusal.Refusal.TheVariants.{NotWhole}
 use Rattle.machine.specs.States.{has_lease, requesting}
 use Rattle.machine.specs.declared.state.ClientState.{ClientState}
 use Rattle.machine.specs.declared.state.ClientState.TheVariants.{Init, Discovering, Requesting, Renewing}
@@ -21,10 +23,10 @@ use Rattle.judge.specs.declared.judge.Recipient.{Recipient}
 use Rattle.judge.specs.declared.judge.Acked.{Acked}
 use Rattle.judge.specs.declared.judge.Offered.{Offered}
 use Rattle.judge.specs.declared.judge.Verdict.{Verdict}
-use Rattle.judge.specs.declared.judge.Verdict.TheVariants.{Offer, Ack, Nak, PassedOver}
-use Rattle.client.specs.declared.reset.Settled.{Settled}
-use Rattle.client.specs.declared.process.Processed.{Processed}
-use Rattle.client.specs.declared.process.ReplyOutcome.TheVariants as outcome
+use Rattle.judge.specs.declared.judge.Verdict.TheVariants.{Offer, Ack, Nak}
+use Rattle.client.specs.declared.client.Settled.{Settled}
+use Rattle.client.specs.Outcomes.{Processed, done_as}
+use Rattle.client.specs.declared.process.NotTaken.TheVariants as not_taken
 
 -- Whose lease an ACK brings: in Requesting the server's that made the offer, in Renewing the one's that leased the address.
 -- No other state awaits an ACK.
@@ -42,43 +44,43 @@ unfoldable pub held_by : ClientState → DhcpLease → Installed
 held_by state held = when has_lease state then installed held else nothing
 
 -- Another lease, in the place of the one that is held, if one is.
-abbrev pub entered : Client → Tables → Session → DhcpLease → Settled
+abbrev pub entered : Client → Tables → Session → DhcpLease → Settled Bool
 entered c t session lease = record {
   client = with_lease c session lease;
   tables = (applied t (installed lease) (held_by c.session.state c.lease)).tables;
-  purge = (applied t (installed lease) (held_by c.session.state c.lease)).purge;
+  outcome = (applied t (installed lease) (held_by c.session.state c.lease)).purge;
 }
 
 -- An ACK with its lease and the session that it leads to. "An ACK whose lease equals the one held (stored options included)
 -- moves the moments, ends rebinding as any accepted ACK does, and changes nothing else."
-unfoldable pub acked_as : Client → Tables → Session → DhcpLease → Settled
+unfoldable pub acked_as : Client → Tables → Session → DhcpLease → Settled Bool
 acked_as c t session lease =
-    when holds c.session.state c.lease lease then record { client = with_session c session; tables = t; purge = false }
+    when holds c.session.state c.lease lease then record { client = with_session c session; tables = t; outcome = false }
     else entered c t session lease
 
 abbrev pub ack_lease : Client → List ℕ → Acked → DhcpLease
 ack_lease c reply ack = lease_of (server_of c.session.state c.lease ack.server) ack.address ack.prefix reply
 
-unfoldable pub acked : Client → Tables → List ℕ → Instant → Acked → Settled
+unfoldable pub acked : Client → Tables → List ℕ → Instant → Acked → Settled Bool
 acked c t reply moment ack = acked_as c t (in_state c.session (bound_by c.settings reply moment)) (ack_lease c reply ack)
 
 -- An OFFER: Requesting, due now.
-abbrev pub offered : Client → Tables → Instant → Offered → Settled
+abbrev pub offered : Client → Tables → Instant → Offered → Settled Bool
 offered c t moment offer = record {
   client = with_session c (in_state c.session (requesting offer.server offer.address moment));
   tables = t;
-  purge = false;
+  outcome = false;
 }
 
 -- A reply after the verdict on it. One that is passed over leaves client and tables as they came.
-abbrev pub taken_as : Settled → Processed
-taken_as s = record { client = s.client; tables = s.tables; outcome = outcome.Taken s.purge }
+abbrev pub taken_as : Settled Bool → Processed
+taken_as = done_as
 
-unfoldable pub replied : Client → Tables → List ℕ → Instant → Verdict → Processed
-replied c t reply moment (Offer offer) = taken_as (offered c t moment offer)
-replied c t reply moment (Ack ack) = taken_as (acked c t reply moment ack)
-replied c t reply moment Nak = taken_as (cleared c t)
-replied c t reply moment (PassedOver number) = record { client = c; tables = t; outcome = outcome.PassedOver number }
+unfoldable pub replied : Client → Tables → List ℕ → Instant → Result Verdict PassedOver → Processed
+replied c t reply moment (Ok (Offer offer)) = taken_as (offered c t moment offer)
+replied c t reply moment (Ok (Ack ack)) = taken_as (acked c t reply moment ack)
+replied c t reply moment (Ok Nak) = taken_as (cleared c t)
+replied c t reply moment (Err reason) = record { client = c; tables = t; outcome = Err (not_taken.PassedOver reason) }
 
 -- What of a client decides: hardware address, transaction id, state, and whether NAKs are ignored.
 abbrev pub recipient_of : Client → Recipient
@@ -92,5 +94,5 @@ recipient_of c = record {
 -- The call: 9 first, and then client and tables are as they came.
 unfoldable pub processed : Client → Tables → ℕ → List ℕ → Instant → Processed
 processed c t source reply moment =
-    when not (whole_all c t) then record { client = c; tables = t; outcome = outcome.Refused 9 }
+    when not (whole_all c t) then record { client = c; tables = t; outcome = Err (not_taken.Refused NotWhole) }
     else replied c t reply moment (judged (recipient_of c) source reply)

@@ -1,23 +1,47 @@
-// The client, its creation, and number 9.
+// The client, its creation, and whether it is whole.
+#![tactic(auto, using(choice::proofs::Choices::if_true, choice::proofs::Choices::if_false), unfolding(crate::specs::Clients::created, crate::specs::Clients::whole_client, crate::specs::Clients::lease_fits, crate::specs::Clients::checked))]
+
 ghost use Rattle.std.specs.Prelude.{◌≡◌};
 ghost use Rattle.client.specs.Calls.{calls};
-ghost use Rattle.client.specs.Clients.{no_client, fresh, whole_client, lease_fits};
+ghost use Rattle.client.specs.Outcomes.{done_as};
+ghost use Rattle.client.specs.Clients.{no_client, fresh, whole_client, lease_fits, checked};
 
 use lease::DhcpLease;
 use machine::ClientState;
-use octets::MaybeNumber;
+use reasons::Refusal;
 use settings::Settings;
-use tables::Outcome;
+use tables::Tables;
+
+// A client and its tables after a call, and what came of it.
+#[derive(Clone, Copy, Debug, PartialEq, Eq)]
+pub struct Settled<T> {
+    pub client: Client,
+    pub tables: Tables,
+    pub outcome: T,
+}
+
+impl Settled<bool> {
+    // The same of a call that can be refused, and was not.
+    pub(crate) fn done<E>(self) -> Settled<Result<bool, E>>
+        ensures { result ≡ done_as self }
+    {
+        Settled {
+            client: self.client,
+            tables: self.tables,
+            outcome: Ok(self.outcome),
+        }
+    }
+}
 
 // Where the client is with its servers: what calls change most.
-#[derive(Clone, Copy)]
+#[derive(Clone, Copy, Debug, PartialEq, Eq)]
 pub struct Session {
     pub state: ClientState,
     // Of the last message that was sent.
     pub transaction_id: u32,
 }
 
-#[derive(Clone, Copy)]
+#[derive(Clone, Copy, Debug, PartialEq, Eq)]
 pub struct Client {
     pub settings: Settings,
     // NAKs are passed over: for sites where a server sends them astray. RFC 2131 has no such thing.
@@ -27,28 +51,13 @@ pub struct Client {
     pub lease: DhcpLease,
 }
 
-// A client, or the number of the refusal, and then the client is all zero.
-#[derive(Clone, Copy)]
-pub struct Created {
-    pub client: Client,
-    pub outcome: Outcome,
-}
-
 impl Client {
-    // A client that sends its first Discover at the next poll; 1 to 7 refuse settings, in that order.
-    pub fn new(settings: Settings, ignoring: bool) -> Created
+    // A client that sends its first Discover at the next poll, if nothing refuses its settings.
+    pub fn new(settings: Settings, ignoring: bool) -> Result<Client, Refusal>
         ensures { result ≡ calls.create settings ignoring }
     {
-        match settings.refusal() {
-            MaybeNumber::None => Created {
-                client: Client::fresh(settings, ignoring),
-                outcome: Outcome::Done,
-            },
-            MaybeNumber::Some(number) => Created {
-                client: Client::zero(),
-                outcome: Outcome::Refused(number),
-            },
-        }
+        settings.checked()?;
+        Ok(Client::fresh(settings, ignoring))
     }
 
     fn fresh(settings: Settings, ignoring: bool) -> Client
@@ -67,7 +76,7 @@ impl Client {
     }
 
     // All zero.
-    fn zero() -> Client
+    pub fn zero() -> Client
         ensures { result ≡ no_client }
     {
         let settings = Settings::zero();
@@ -83,15 +92,21 @@ impl Client {
         }
     }
 
-    // Whether number 9 finds nothing here: 1 to 7 don't refuse the settings, and a lease that is held is whole.
-    pub fn is_whole(self) -> bool
-        ensures { result ≡ whole_client self }
+    // Whether nothing refuses the settings, and a lease that is held is whole.
+    pub fn is_whole(&self) -> bool
+        ensures { result ≡ whole_client self.now }
     {
-        let session = self.session;
-        let state = session.state;
-        match self.settings.refusal() {
-            MaybeNumber::None => lease_fits(state, self.lease),
-            MaybeNumber::Some(_) => false,
+        self.settings.refusal().is_none() && lease_fits(self.session.state, self.lease)
+    }
+
+    // Refused as NotWhole (9) where it is not.
+    pub(crate) fn checked(self) -> Result<(), Refusal>
+        ensures { result ≡ checked self }
+    {
+        if self.is_whole() {
+            Ok(())
+        } else {
+            Err(Refusal::NotWhole)
         }
     }
 }
@@ -100,8 +115,5 @@ impl Client {
 fn lease_fits(state: ClientState, lease: DhcpLease) -> bool
     ensures { result ≡ lease_fits state lease }
 {
-    if state.has_lease() {
-        return lease.is_whole();
-    }
-    true
+    !state.has_lease() || lease.is_whole()
 }

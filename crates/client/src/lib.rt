@@ -1,8 +1,8 @@
 // The DHCP client of a post, by value: its creation, polls, replies, resets, and what can be looked up. Ports the rest of
 // iface/dhcpv4.rs.
 //
-// Any client, tables, generator, reply, moment and buffer have an answer: a result, or a number of document 01, and then
-// nothing has changed.
+// Any client, tables, generator, reply, moment and buffer have an answer: a result, or why there is none, and then nothing
+// has changed.
 
 #![tactic(auto)]
 
@@ -13,8 +13,7 @@ pub mod process;
 pub mod reset;
 mod taken;
 
-pub use client::{Client, Created, Session};
-pub use lookup::{Leased, Standing};
-pub use poll::{PollAnswer, PollOutcome, Polled};
-pub use process::{Processed, ReplyOutcome};
-pub use reset::{ResetOutcome, WasReset};
+pub use client::{Client, Session, Settled};
+pub use poll::{PollAnswer, Polled};
+pub use process::{NotTaken, Processed};
+pub use reset::WasReset;

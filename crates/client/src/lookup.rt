@@ -1,79 +1,41 @@
-// What can be looked up of a client; 9 where it is not whole.
+// What can be looked up of a client: refused as NotWhole (9) where it is not whole.
+#![tactic(auto, using(choice::proofs::Choices::if_true, choice::proofs::Choices::if_false), unfolding(crate::specs::Clients::checked, crate::specs::Lookups::lease_held, crate::specs::Lookups::option_held, crate::specs::Lookups::standing))]
+
 ghost use Rattle.std.specs.Prelude.{◌≡◌};
-ghost use Rattle.client.specs.Lookups.{lease_held, option_held, standing, not_held};
+ghost use Rattle.client.specs.Lookups.{lease_held, option_held, standing};
 
 use crate::client::Client;
 use lease::DhcpLease;
 use machine::ClientState;
-use tables::Has;
-use wire::Got;
-
-// The lease, if one is held; all zero where none is, or the look-up is refused.
-#[derive(Clone, Copy)]
-pub struct Leased {
-    pub lease: DhcpLease,
-    pub held: Has,
-}
-
-// The state, with its deadlines.
-#[derive(Clone, Copy)]
-pub enum Standing {
-    In(ClientState),
-    Refused(u32),
-}
+use reasons::Refusal;
+use wire::Place;
 
 impl Client {
     // The lease, if one is held.
-    pub fn lease(self) -> Leased
+    pub fn lease(self) -> Result<Option<DhcpLease>, Refusal>
         ensures { result ≡ lease_held self }
     {
-        let session = self.session;
-        let state = session.state;
-        if !self.is_whole() {
-            return unheld(Has::Refused(9));
-        }
-        if state.has_lease() {
-            let lease = self.lease;
-            return Leased {
-                lease,
-                held: Has::Yes,
-            };
-        }
-        unheld(Has::No)
+        self.checked()?;
+        Ok(self.session.state.has_lease().then_some(self.lease))
     }
 
     // Where the data of a stored option of the lease lies in its store, and how long it is.
-    pub fn get(self, kind: u8) -> Got
+    pub fn get(self, kind: u8) -> Result<Option<Place>, Refusal>
         ensures { result ≡ option_held self kind }
     {
-        let session = self.session;
-        let state = session.state;
-        if !self.is_whole() {
-            return Got::Refused(9);
+        self.checked()?;
+        if self.session.state.has_lease() {
+            self.lease.options.get(kind)
+        } else {
+            Ok(None)
         }
-        if state.has_lease() {
-            return self.lease.options.get(kind);
-        }
-        Got::Absent
     }
 
     // The state, with its deadlines.
-    pub fn state(self) -> Standing
+    pub fn state(self) -> Result<ClientState, Refusal>
         ensures { result ≡ standing self }
     {
-        let session = self.session;
-        let state = session.state;
-        if !self.is_whole() {
-            return Standing::Refused(9);
-        }
-        Standing::In(state)
+        self.checked()?;
+        Ok(self.session.state)
     }
-}
-
-// No lease.
-fn unheld(held: Has) -> Leased
-    ensures { result ≡ not_held held }
-{
-    let lease = DhcpLease::zero();
-    Leased { lease, held }
 }

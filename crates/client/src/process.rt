@@ -1,35 +1,55 @@
 // Replies: any bytes, from any source.
+#![tactic(auto, using(choice::proofs::Choices::if_true, choice::proofs::Choices::if_false), unfolding(crate::specs::Clients::whole_all, crate::specs::Taken::processed, crate::specs::Taken::replied))]
+
 ghost use Rattle.std.specs.Prelude.{◌≡◌};
 ghost use Rattle.client.specs.Calls.{calls};
-ghost use Rattle.client.specs.Taken.{recipient_of, taken_as};
+ghost use Rattle.client.specs.Outcomes.{not_taken_number};
+ghost use Rattle.client.specs.Taken.{recipient_of};
 
-use crate::client::{Client, Session};
-use crate::reset::Settled;
+use crate::client::{Client, Settled};
 use clock::Instant;
 use judge::{Recipient, Verdict};
 use machine::ClientState;
+use reasons::{PassedOver, Refusal};
+use std::error::Error;
+use std::fmt;
 use tables::Tables;
 
-// What became of a reply: it was taken, and whether link state is to be purged; it was passed over by a number from 20 to
-// 30; or the call was refused.
-#[derive(Clone, Copy)]
-pub enum ReplyOutcome {
-    Taken { purge: bool },
-    PassedOver(u32),
-    Refused(u32),
+// Why a reply is not taken: it is passed over, or the call is refused.
+#[derive(Clone, Copy, Debug, PartialEq, Eq)]
+pub enum NotTaken {
+    PassedOver(PassedOver),
+    Refused(Refusal),
 }
 
-// The client and its tables after a reply; as they came where it is not taken.
-#[derive(Clone, Copy)]
-pub struct Processed {
-    pub client: Client,
-    pub tables: Tables,
-    pub outcome: ReplyOutcome,
+impl From<NotTaken> for u32 {
+    ghost from_gives = { λ why number. number ≡ not_taken_number why };
+
+    fn from(why: NotTaken) -> u32 {
+        match why {
+            NotTaken::PassedOver(reason) => u32::from(reason),
+            NotTaken::Refused(refusal) => u32::from(refusal),
+        }
+    }
 }
+
+impl fmt::Display for NotTaken {
+    fn fmt<W: fmt::Write>(&self, f: &mut fmt::Formatter<W>) -> fmt::Result {
+        match self {
+            NotTaken::PassedOver(reason) => write!(f, "passed over: {reason}"),
+            NotTaken::Refused(refusal) => write!(f, "refused: {refusal}"),
+        }
+    }
+}
+
+impl Error for NotTaken {}
+
+// The client and its tables after a reply, and whether link state is to be purged; as they came where it is not taken.
+pub type Processed = Settled<Result<bool, NotTaken>>;
 
 impl Client {
-    // Takes a reply, the UDP payload, or passes it over; 9 where client or tables are not whole. Each answer is made here, as a
-    // function that hands client and tables on costs a copy of them.
+    // Takes a reply, the UDP payload, or passes it over; refused as NotWhole (9) where client or tables are not whole. Its parameters
+    // stay apart as poll's do.
     pub fn process(
         mut self,
         tables: Tables,
@@ -41,71 +61,45 @@ impl Client {
     {
         let whole = self.is_whole() & tables.is_whole();
         if !whole {
-            return Processed {
+            return Settled {
                 client: self,
                 tables,
-                outcome: ReplyOutcome::Refused(9),
+                outcome: Err(NotTaken::Refused(Refusal::NotWhole)),
             };
         }
         let verdict = self.recipient().judge(source, reply);
+        // each arm returns: of a match that answers, client and tables are copied once more, 242 instructions of a reply's 1,180
         match verdict {
-            Verdict::Offer(offer) => {
-                let server = offer.server;
-                let state = ClientState::requesting(server, offer.address, moment);
-                let session = Session {
-                    state,
-                    transaction_id: self.session.transaction_id,
-                };
-                self.session = session;
-                return Processed {
+            Ok(Verdict::Offer(offer)) => {
+                self.session.state = ClientState::requesting(offer.server, offer.address, moment);
+                return Settled {
                     client: self,
                     tables,
-                    outcome: ReplyOutcome::Taken { purge: false },
+                    outcome: Ok(false),
                 };
             }
-            Verdict::Ack(ack) => {
-                return self.acked(tables, reply, moment, ack).taken();
-            }
-            Verdict::Nak => {
-                return self.cleared(tables).taken();
-            }
-            Verdict::PassedOver(number) => {
-                return Processed {
+            Ok(Verdict::Ack(ack)) => return self.acked(tables, reply, moment, ack).done(),
+            Ok(Verdict::Nak) => return self.cleared(tables).done(),
+            Err(reason) => {
+                return Settled {
                     client: self,
                     tables,
-                    outcome: ReplyOutcome::PassedOver(number),
+                    outcome: Err(NotTaken::PassedOver(reason)),
                 };
             }
         }
     }
 
     // What of this client decides on a reply.
-    fn recipient(self) -> Recipient
-        ensures { result ≡ recipient_of self }
+    fn recipient(&self) -> Recipient
+        ensures { result ≡ recipient_of self.now }
     {
         let hardware = self.settings.hardware;
-        let session = self.session;
-        let state = session.state;
         Recipient {
             hardware,
             id: self.session.transaction_id,
-            state,
+            state: self.session.state,
             ignoring: self.ignore_naks,
-        }
-    }
-}
-
-impl Settled {
-    // The answer to a reply that was taken.
-    pub(crate) fn taken(self) -> Processed
-        ensures { result ≡ taken_as self }
-    {
-        let client = self.client;
-        let tables = self.tables;
-        Processed {
-            client,
-            tables,
-            outcome: ReplyOutcome::Taken { purge: self.purge },
         }
     }
 }

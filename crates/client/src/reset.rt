@@ -1,105 +1,68 @@
 // Resets: the lease is dropped, if one is held, and the client starts over.
+#![tactic(auto, using(choice::proofs::Choices::if_true, choice::proofs::Choices::if_false), unfolding(crate::specs::Clients::whole_all, crate::specs::Resets::cleared, crate::specs::Resets::was_reset))]
+
 ghost use Rattle.std.specs.Prelude.{◌≡◌};
 ghost use Rattle.client.specs.Calls.{calls};
 ghost use Rattle.client.specs.Resets.{restarted, dropped, cleared};
 
-use crate::client::{Client, Session};
+use crate::client::{Client, Settled};
 use lease::{DhcpLease, nothing};
 use machine::ClientState;
+use reasons::Refusal;
 use tables::Tables;
 
-// Whether link state is to be purged, or the number of the refusal.
-#[derive(Clone, Copy)]
-pub enum ResetOutcome {
-    Done { purge: bool },
-    Refused(u32),
-}
-
-// The client and its tables after a reset; as they came where it is refused.
-#[derive(Clone, Copy)]
-pub struct WasReset {
-    pub client: Client,
-    pub tables: Tables,
-    pub outcome: ResetOutcome,
-}
-
-// A client and its tables after a change, and whether link state is to be purged.
-#[derive(Clone, Copy)]
-pub(crate) struct Settled {
-    pub client: Client,
-    pub tables: Tables,
-    pub purge: bool,
-}
+// The client and its tables after a reset, and whether link state is to be purged; as they came where it is refused.
+pub type WasReset = Settled<Result<bool, Refusal>>;
 
 impl Client {
-    // Drops the lease, if one is held, and starts over; 9 where client or tables are not whole.
+    // Drops the lease, if one is held, and starts over; refused as NotWhole (9) where client or tables are not whole.
     pub fn reset(self, tables: Tables) -> WasReset
         ensures { result ≡ calls.reset self tables }
     {
+        // tested here, as in poll and process: a function that handed client and tables on would copy both once more
         let whole = self.is_whole() & tables.is_whole();
         if !whole {
-            return WasReset {
+            return Settled {
                 client: self,
                 tables,
-                outcome: ResetOutcome::Refused(9),
+                outcome: Err(Refusal::NotWhole),
             };
         }
-        let settled = self.cleared(tables);
-        let client = settled.client;
-        let left = settled.tables;
-        WasReset {
-            client,
-            tables: left,
-            outcome: ResetOutcome::Done {
-                purge: settled.purge,
-            },
-        }
+        self.cleared(tables).done()
     }
 
-    // A whole client's reset. The lease is left as it came in a state that does not read it.
-    pub(crate) fn cleared(self, tables: Tables) -> Settled
+    // A whole client's reset, and whether link state is to be purged. Where no lease is held, what stands in its place is left.
+    pub(crate) fn cleared(self, tables: Tables) -> Settled<bool>
         ensures { result ≡ cleared self tables }
     {
-        let session = self.session;
-        let state = session.state;
-        if state.has_lease() {
+        if self.session.state.has_lease() {
             return self.dropped(tables);
         }
         self.restarted(tables)
     }
 
-    fn restarted(mut self, tables: Tables) -> Settled
+    fn restarted(mut self, tables: Tables) -> Settled<bool>
         ensures { result ≡ restarted self tables }
     {
-        let session = Session {
-            state: ClientState::Init,
-            transaction_id: self.session.transaction_id,
-        };
-        self.session = session;
+        self.session.state = ClientState::Init;
         Settled {
             client: self,
             tables,
-            purge: false,
+            outcome: false,
         }
     }
 
     // The lease goes, and with it what it has put into the tables.
-    fn dropped(mut self, tables: Tables) -> Settled
+    pub(crate) fn dropped(mut self, tables: Tables) -> Settled<bool>
         ensures { result ≡ dropped self tables }
     {
         let applied = tables.dhcpv4_apply(nothing(), self.lease.installed());
-        let left = applied.tables;
-        let session = Session {
-            state: ClientState::Init,
-            transaction_id: self.session.transaction_id,
-        };
-        let lease = DhcpLease::zero();
-        self.session = session;
-        self.lease = lease;
+        self.session.state = ClientState::Init;
+        self.lease = DhcpLease::zero();
         Settled {
             client: self,
-            tables: left,
-            purge: applied.purge,
+            tables: applied.tables,
+            outcome: applied.purge,
         }
     }
 }

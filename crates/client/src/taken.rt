@@ -1,9 +1,10 @@
 // What a reply that is taken as an ACK does to the client and its tables.
+#![tactic(auto, using(choice::proofs::Choices::if_true, choice::proofs::Choices::if_false), unfolding(crate::specs::Taken::holds, crate::specs::Taken::held_by, crate::specs::Taken::acked, crate::specs::Taken::acked_as))]
+
 ghost use Rattle.std.specs.Prelude.{◌≡◌};
 ghost use Rattle.client.specs.Taken.{server_of, holds, held_by, acked, entered};
 
-use crate::client::{Client, Session};
-use crate::reset::Settled;
+use crate::client::{Client, Session, Settled};
 use clock::Instant;
 use judge::Acked;
 use lease::{DhcpLease, nothing};
@@ -11,14 +12,14 @@ use machine::{ClientState, DhcpServerInfo};
 use tables::{Installed, Tables};
 
 impl Client {
-    // An ACK. One that brings the lease that is held moves the moments, ends rebinding, and changes nothing else.
+    // An ACK, with process' own parameters. One that brings the lease that is held moves the moments, ends rebinding, and changes nothing else.
     pub(crate) fn acked(
         mut self,
         tables: Tables,
         reply: &[u8],
         moment: Instant,
         ack: Acked,
-    ) -> Settled
+    ) -> Settled<bool>
         ensures { result ≡ acked self tables reply.now moment ack }
     {
         let was = self.session;
@@ -34,26 +35,23 @@ impl Client {
             return Settled {
                 client: self,
                 tables,
-                purge: false,
+                outcome: false,
             };
         }
         self.entered(tables, session, lease)
     }
 
     // Another lease, in the place of the one that is held, if one is.
-    fn entered(mut self, tables: Tables, session: Session, lease: DhcpLease) -> Settled
+    fn entered(mut self, tables: Tables, session: Session, lease: DhcpLease) -> Settled<bool>
         ensures { result ≡ entered self tables session lease }
     {
-        let was = self.session;
-        let state = was.state;
-        let applied = tables.dhcpv4_apply(lease.installed(), held(state, self.lease));
-        let left = applied.tables;
+        let applied = tables.dhcpv4_apply(lease.installed(), held(self.session.state, self.lease));
         self.session = session;
         self.lease = lease;
         Settled {
             client: self,
-            tables: left,
-            purge: applied.purge,
+            tables: applied.tables,
+            outcome: applied.purge,
         }
     }
 }
@@ -62,12 +60,10 @@ impl Client {
 fn server(state: ClientState, lease: DhcpLease, sender: DhcpServerInfo) -> DhcpServerInfo
     ensures { result ≡ server_of state lease sender }
 {
-    let held = lease.server;
     match state {
-        ClientState::Init => sender,
-        ClientState::Discovering(_) => sender,
+        ClientState::Init | ClientState::Discovering(_) => sender,
         ClientState::Requesting(s) => s.server,
-        ClientState::Renewing(_) => held,
+        ClientState::Renewing(_) => lease.server,
     }
 }
 
@@ -75,10 +71,7 @@ fn server(state: ClientState, lease: DhcpLease, sender: DhcpServerInfo) -> DhcpS
 fn holds(state: ClientState, held: DhcpLease, lease: DhcpLease) -> bool
     ensures { result ≡ holds state held lease }
 {
-    if state.has_lease() {
-        return lease.equals(held);
-    }
-    false
+    state.has_lease() && lease.equals(held)
 }
 
 // What the lease that is held has put into the tables.

@@ -1,9 +1,7 @@
 -- Durations: milliseconds, at most 1,073,741,824 (document 01, src/time.rs).
-use Rattle.std.specs.Prelude.{ℕ, ◌*◌, min, Bool}
+use Rattle.std.specs.Prelude.{ℕ, ◌*◌, min, Bool, Option, None, Some}
 use Rattle.choice.specs.Choice.{when◌then◌else◌}
 use Rattle.clock.specs.declared.duration.Duration.{Duration}
-use Rattle.clock.specs.declared.duration.MaybeDuration.{MaybeDuration}
-use Rattle.clock.specs.declared.duration.MaybeDuration.TheVariants.{None, Some}
 
 -- The longest duration, in milliseconds: 2^30.
 abbrev pub longest : ℕ
@@ -22,5 +20,5 @@ abbrev pub duration : ℕ → Duration
 duration millis = record { millis = millis }
 
 -- What a checked operation gives: none where the test says so, else the duration of so many milliseconds.
-unfoldable pub none_if : Bool → ℕ → MaybeDuration
+unfoldable pub none_if : Bool → ℕ → Option Duration
 none_if test millis = when test then None else Some (duration millis)

@@ -1,6 +1,8 @@
 // The clock of a single poll. It has the poll's moment and gathers deadlines; the earliest of them is when the next poll
 // is wanted, at most 24 hours on. A deadline that is asked about and has not come is gathered by the asking itself, so that
 // none is forgotten. A method that changes the clock hands it back.
+#![tactic(auto, using(choice::proofs::Choices::if_true, choice::proofs::Choices::if_false), unfolding(crate::specs::Clocks::clock_at, crate::specs::Clocks::gathering, crate::specs::Clocks::expired_at, crate::specs::Clocks::timer_after))]
+
 ghost use Rattle.std.specs.Prelude.{◌≡◌};
 ghost use Rattle.clock.specs.Clocks.{clock_at, gathering, expired_at, timer_after};
 
@@ -13,7 +15,7 @@ const MAX_POLL_DELAY: Duration = Duration {
     millis: 24 * 60 * 60 * 1000,
 };
 
-#[derive(Clone, Copy)]
+#[derive(Clone, Copy, Debug, PartialEq, Eq)]
 pub struct Clock {
     // The poll's own moment.
     pub now: Instant,
@@ -21,17 +23,10 @@ pub struct Clock {
     pub next: Instant,
 }
 
-// Whether a deadline has come, and the clock after the question.
-#[derive(Clone, Copy)]
-pub struct Expired {
-    pub expired: bool,
-    pub clock: Clock,
-}
-
-// A deadline that was set, and the clock after it.
-#[derive(Clone, Copy)]
-pub struct TimerSet {
-    pub deadline: Instant,
+// A value, and the clock after it. Drawn is apart: each names what it hands on, a clock or a generator.
+#[derive(Clone, Copy, Debug, PartialEq, Eq)]
+pub struct Clocked<T> {
+    pub value: T,
     pub clock: Clock,
 }
 
@@ -60,19 +55,19 @@ impl Clock {
 
     // Whether a deadline has come. It has at its very moment: had it not, that poll would want another there and then, and
     // so would that one.
-    pub fn expired(self, deadline: Instant) -> Expired
+    pub fn expired(self, deadline: Instant) -> Clocked<bool>
         ensures { result ≡ expired_at self deadline.millis }
     {
-        let now = self.now;
-        if deadline.is_at_or_before(now) {
-            return Expired {
-                expired: true,
+        if deadline.is_at_or_before(self.now) {
+            Clocked {
+                value: true,
                 clock: self,
-            };
-        }
-        Expired {
-            expired: false,
-            clock: self.schedule(deadline),
+            }
+        } else {
+            Clocked {
+                value: false,
+                clock: self.schedule(deadline),
+            }
         }
     }
 
@@ -80,22 +75,19 @@ impl Clock {
     pub fn schedule(self, deadline: Instant) -> Clock
         ensures { result ≡ gathering self deadline.millis }
     {
-        let now = self.now;
-        let next = self.next;
         Clock {
-            now,
-            next: next.min(deadline),
+            now: self.now,
+            next: self.next.min(deadline),
         }
     }
 
     // Sets a deadline so long from now, and gathers it.
-    pub fn after(self, delay: Duration) -> TimerSet
+    pub fn after(self, delay: Duration) -> Clocked<Instant>
         ensures { result ≡ timer_after self delay.millis }
     {
-        let now = self.now;
-        let deadline = now.add(delay);
-        TimerSet {
-            deadline,
+        let deadline = self.now.add(delay);
+        Clocked {
+            value: deadline,
             clock: self.schedule(deadline),
         }
     }

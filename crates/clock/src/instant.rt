@@ -1,14 +1,16 @@
 // Moments: the lowest 32 bits of a count of milliseconds since some start, so that they begin anew after seven weeks. Which
 // of two is before the other goes by the sign of their wrapped difference. That is the true order while they lie less than
 // 2^31 ms apart.
+#![tactic(auto, using(choice::proofs::Choices::if_true, choice::proofs::Choices::if_false, crate::proofs::MomentLaws::due_by_gap), unfolding(crate::specs::Durations::none_if, crate::specs::Moments::before, crate::specs::Moments::rest, crate::specs::Moments::earlier, crate::specs::Moments::later))]
+
 ghost use Rattle.std.specs.Prelude.{◌≡◌, ◌*◌, ◌/◌, ◌%◌};
 ghost use Rattle.clock.specs.Durations.{clamp, duration, none_if};
 ghost use Rattle.clock.specs.Moments.{wrap, plus, gap, before, due, rest, earlier, later, moment};
 
-use crate::duration::{Duration, MaybeDuration};
-use crate::product::WORD;
+use crate::duration::Duration;
 
-#[derive(Clone, Copy)]
+// No PartialOrd: `is_before` is no order, since of three moments that lie all round the clock each is before the next.
+#[derive(Clone, Copy, Debug, PartialEq, Eq)]
 pub struct Instant {
     pub millis: u32,
 }
@@ -16,6 +18,7 @@ pub struct Instant {
 // Half of what a moment counts: a wrapped difference from here on is a negative number.
 const HALF: u32 = 1 << 31;
 
+// as_millis, as_secs and subsec_millis are Duration's too, by the Rust's names: a trait of one-line bodies would be longer.
 impl Instant {
     // The start.
     pub const ZERO: Instant = Instant { millis: 0 };
@@ -31,7 +34,7 @@ impl Instant {
         ensures { result ≡ moment (wrap (1000 * secs)) }
     {
         Instant {
-            millis: ((1000 * (secs as u64)) % WORD) as u32,
+            millis: secs.wrapping_mul(1000),
         }
     }
 
@@ -60,7 +63,7 @@ impl Instant {
         ensures { result ≡ moment (plus self.millis wait.millis) }
     {
         Instant {
-            millis: std::num::wrapping_add_u32(self.millis, wait.millis),
+            millis: self.millis.wrapping_add(wait.millis),
         }
     }
 
@@ -94,13 +97,13 @@ impl Instant {
     }
 
     // The time from an earlier moment to this one, or none where that moment is the later one.
-    pub fn checked_duration_since(self, earlier: Instant) -> MaybeDuration
+    pub fn checked_duration_since(self, earlier: Instant) -> Option<Duration>
         ensures { result ≡ none_if (before self.millis earlier.millis) (clamp (gap self.millis earlier.millis)) }
     {
         if self.is_before(earlier) {
-            return MaybeDuration::None;
+            return None;
         }
-        MaybeDuration::Some(Duration::from_millis(wrapped_gap(self.millis, earlier.millis)))
+        Some(Duration::from_millis(wrapped_gap(self.millis, earlier.millis)))
     }
 
     // The time from an earlier moment to this one, zero where that moment is the later one.
@@ -113,7 +116,7 @@ impl Instant {
         Duration::from_millis(wrapped_gap(self.millis, earlier.millis))
     }
 
-    // The same: the Rust's `self - earlier` too.
+    // The same under the name by which the Rust's `self - earlier` calls it: both names are ported.
     pub fn duration_since(self, earlier: Instant) -> Duration
         ensures { result ≡ duration (rest self.millis earlier.millis) }
     {
@@ -143,5 +146,5 @@ impl Instant {
 fn wrapped_gap(a: u32, b: u32) -> u32
     ensures { result ≡ gap a b }
 {
-    std::num::wrapping_sub_u32(a, b)
+    a.wrapping_sub(b)
 }

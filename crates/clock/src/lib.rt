@@ -13,8 +13,8 @@ mod product;
 pub mod rand;
 pub mod waits;
 
-pub use clock::{Clock, Expired, TimerSet};
-pub use duration::{Duration, MaybeDuration};
+pub use clock::{Clock, Clocked};
+pub use duration::Duration;
 pub use instant::Instant;
-pub use rand::{Drawn16, Drawn32, Rand, draw};
+pub use rand::{Drawn, Rand, draw};
 pub use waits::Waits;

@@ -1,4 +1,6 @@
 // A small generator of random numbers, sPCG32, for transaction ids. It is not fit for secrets.
+#![tactic(auto, unfolding(crate::specs::Generator::next_state, crate::specs::Generator::output_of, crate::specs::Generator::drawn32, crate::specs::Generator::drawn16))]
+
 ghost use Rattle.std.specs.Prelude.{◌≡◌, ◌/◌, ◌%◌, ◌^◌, bit_xor};
 ghost use Rattle.clock.specs.Generator.{next_state, output_of, generator, drawn32, drawn16};
 
@@ -8,22 +10,16 @@ const MULTIPLIER: u64 = 0xbb2efcec3c39611d;
 
 const INCREMENT: u64 = 0x7590ef39;
 
-#[derive(Clone, Copy)]
+#[derive(Clone, Copy, Debug, PartialEq, Eq)]
 pub struct Rand {
     pub state: u64,
 }
 
 // A number drawn, and the generator after it.
-#[derive(Clone, Copy)]
-pub struct Drawn32 {
+#[derive(Clone, Copy, Debug, PartialEq, Eq)]
+pub struct Drawn<T> {
     pub rand: Rand,
-    pub value: u32,
-}
-
-#[derive(Clone, Copy)]
-pub struct Drawn16 {
-    pub rand: Rand,
-    pub value: u16,
+    pub value: T,
 }
 
 impl Rand {
@@ -33,24 +29,23 @@ impl Rand {
         Rand { state: seed }
     }
 
-    pub fn rand_u32(self) -> Drawn32
+    pub fn rand_u32(self) -> Drawn<u32>
         ensures { result ≡ drawn32 self }
     {
         let state = next_state(self.state);
-        Drawn32 {
+        Drawn {
             rand: Rand { state },
             value: output(state),
         }
     }
 
-    pub fn rand_u16(self) -> Drawn16
+    pub fn rand_u16(self) -> Drawn<u16>
         ensures { result ≡ drawn16 self }
     {
-        let drawn = self.rand_u32();
-        let rand = drawn.rand;
-        Drawn16 {
+        let Drawn { rand, value } = self.rand_u32();
+        Drawn {
             rand,
-            value: halves_joined(drawn.value),
+            value: halves_joined(value),
         }
     }
 }
@@ -60,14 +55,14 @@ pub fn draw(rand: &mut Rand) -> u32
     ensures { (rand.new ≡ (drawn32 rand.old).rand) × (result ≡ (drawn32 rand.old).value) }
 {
     let drawn = rand.rand_u32();
-    rand.state = drawn.rand.state;
+    *rand = drawn.rand;
     drawn.value
 }
 
 fn next_state(state: u64) -> u64
     ensures { result ≡ next_state state }
 {
-    std::num::wrapping_add_u64(wrapping_mul_u64(state, MULTIPLIER), INCREMENT)
+    wrapping_mul_u64(state, MULTIPLIER).wrapping_add(INCREMENT)
 }
 
 // 32 bits of a state, from a place that its top 3 bits choose.

@@ -1,10 +1,12 @@
 // The client's waits and its number of tries, in one record: the Rust's constants of these names.
+#![tactic(auto, unfolding(crate::specs::Waits::standard_waits))]
+
 ghost use Rattle.std.specs.Prelude.{◌≡◌};
 ghost use Rattle.clock.specs.Waits.{standard_waits};
 
 use crate::duration::Duration;
 
-#[derive(Clone, Copy)]
+#[derive(Clone, Copy, Debug, PartialEq, Eq)]
 pub struct Waits {
     // From one Discover to the next.
     pub discover_timeout: Duration,

@@ -1,15 +1,21 @@
 // Judging a reply: whether a client takes it, and as what. It needs neither the lease nor the tables.
-ghost use Rattle.std.specs.Prelude.{◌≡◌, ◌≤◌};
-ghost use Rattle.judge.specs.Judged.{is_id, judged, judged_sender, judged_kind, judged_offer, judged_ack, judged_address};
+#![tactic(auto, using(choice::proofs::Choices::if_true, choice::proofs::Choices::if_false, choice::proofs::Choices::tests, octets::proofs::Masks::length_bound), unfolding(crate::specs::Judged::needing, crate::specs::Judged::judged, crate::specs::Judged::judged_sender, crate::specs::Judged::judged_kind, crate::specs::Judged::judged_offer, crate::specs::Judged::judged_ack, crate::specs::Judged::judged_address))]
+
+ghost use Rattle.std.specs.Prelude.{◌≡◌};
+ghost use Rattle.judge.specs.Judged.{judged, judged_offer, judged_ack};
 
 use crate::awaited::Awaited;
 use machine::{ClientState, DhcpServerInfo};
-use octets::MaybeNumber;
+use octets::address::{prefix_len, x_is_unicast};
 use octets::codes::{OPT_SERVER_IDENTIFIER, OPT_SUBNET_MASK};
-use wire::Checked;
+use reasons::PassedOver;
+use wire::reply::{
+    check_header, is_addressed_to, message_type, option_address, transaction_id, unicast_only,
+    your_ip,
+};
 
 // What of a client decides on a reply.
-#[derive(Clone, Copy)]
+#[derive(Clone, Copy, Debug, PartialEq, Eq)]
 pub struct Recipient {
     pub hardware: [u8; 6],
     pub id: u32,
@@ -17,126 +23,78 @@ pub struct Recipient {
     pub ignoring: bool,
 }
 
-// An address that a server offers or leases, and who it is.
-#[derive(Clone, Copy)]
+// An address that a server offers, and who the server is.
+#[derive(Clone, Copy, Debug, PartialEq, Eq)]
 pub struct Offered {
     pub server: DhcpServerInfo,
     pub address: u32,
 }
 
-#[derive(Clone, Copy)]
+// What a server leases. It repeats the two fields of Offered: held as one, they would be no plainer to read.
+#[derive(Clone, Copy, Debug, PartialEq, Eq)]
 pub struct Acked {
     pub server: DhcpServerInfo,
     pub address: u32,
     pub prefix: u8,
 }
 
-#[derive(Clone, Copy)]
+// What a reply is taken as, with what was read of it. Awaited is its kind alone, which is known before that is read.
+#[derive(Clone, Copy, Debug, PartialEq, Eq)]
 pub enum Verdict {
     Offer(Offered),
     Ack(Acked),
     Nak,
-    PassedOver(u32),
 }
 
 impl Recipient {
-    // The checks in document 01's order: length and header, message type, then the rest.
-    pub fn judge(self, source: u32, reply: &[u8]) -> Verdict
+    // The checks in document 01's order: length and header, message type, client hardware address, transaction id, server
+    // identifier, then the state. Source and reply stay two: a reply is lent, and does not say where it came from.
+    pub fn judge(self, source: u32, reply: &[u8]) -> Result<Verdict, PassedOver>
         ensures { result ≡ judged self source reply.now }
     {
-        match wire::reply::check_header(reply) {
-            Checked::PassedOver(number) => Verdict::PassedOver(number),
-            Checked::Passes => match wire::reply::message_type(reply) {
-                MaybeNumber::None => Verdict::PassedOver(22),
-                MaybeNumber::Some(kind) => self.judge_sender(source, reply, kind),
-            },
+        check_header(reply)?;
+        let kind = message_type(reply).ok_or(PassedOver::MessageType)?;
+        if !is_addressed_to(reply, self.hardware) {
+            return Err(PassedOver::HardwareAddress);
         }
-    }
-
-    // Client hardware address, transaction id, server identifier.
-    fn judge_sender(self, source: u32, reply: &[u8], kind: u32) -> Verdict
-        ensures { result ≡ judged_sender self source reply.now kind }
-    {
-        let hardware = self.hardware;
-        if !wire::reply::is_addressed_to(reply, hardware) {
-            return Verdict::PassedOver(23);
+        if transaction_id(reply) != Some(self.id) {
+            return Err(PassedOver::TransactionId);
         }
-        if !is_id(self.id, wire::reply::transaction_id(reply)) {
-            return Verdict::PassedOver(24);
-        }
-        match wire::reply::option_address(reply, OPT_SERVER_IDENTIFIER) {
-            MaybeNumber::None => Verdict::PassedOver(25),
-            MaybeNumber::Some(identifier) => self.judge_kind(source, reply, kind, identifier),
-        }
-    }
-
-    // The state.
-    fn judge_kind(self, source: u32, reply: &[u8], kind: u32, identifier: u32) -> Verdict
-        ensures { result ≡ judged_kind self source reply.now kind identifier }
-    {
-        let state = self.state;
+        let named = option_address(reply, OPT_SERVER_IDENTIFIER);
+        let identifier = named.ok_or(PassedOver::ServerIdentifier)?;
         let server = DhcpServerInfo {
             address: source,
             identifier,
         };
-        match Awaited::of(state, kind, self.ignoring) {
+        match Awaited::of(self.state, kind, self.ignoring).ok_or(PassedOver::NotAwaited)? {
             Awaited::Offer => judge_offer(server, reply),
             Awaited::Ack => judge_ack(server, reply),
-            Awaited::Nak => Verdict::Nak,
-            Awaited::Nothing => Verdict::PassedOver(26),
+            Awaited::Nak => Ok(Verdict::Nak),
         }
-    }
-}
-
-// Whether a reply's transaction id is the client's.
-fn is_id(id: u32, found: MaybeNumber) -> bool
-    ensures { result ≡ is_id id found }
-{
-    match found {
-        MaybeNumber::Some(n) => n == id,
-        MaybeNumber::None => false,
     }
 }
 
 // An OFFER: your-address and source unicast.
-fn judge_offer(server: DhcpServerInfo, reply: &[u8]) -> Verdict
+fn judge_offer(server: DhcpServerInfo, reply: &[u8]) -> Result<Verdict, PassedOver>
     ensures { result ≡ judged_offer server reply.now }
 {
-    match wire::reply::unicast_only(wire::reply::your_ip(reply)) {
-        MaybeNumber::None => Verdict::PassedOver(27),
-        MaybeNumber::Some(address) => {
-            if !octets::address::x_is_unicast(server.address) {
-                return Verdict::PassedOver(27);
-            }
-            Verdict::Offer(Offered { server, address })
-        }
+    let address = unicast_only(your_ip(reply)).ok_or(PassedOver::OfferAddress)?;
+    if !x_is_unicast(server.address) {
+        return Err(PassedOver::OfferAddress);
     }
+    Ok(Verdict::Offer(Offered { server, address }))
 }
 
 // An ACK: mask, contiguity, your-address.
-fn judge_ack(server: DhcpServerInfo, reply: &[u8]) -> Verdict
+fn judge_ack(server: DhcpServerInfo, reply: &[u8]) -> Result<Verdict, PassedOver>
     ensures { result ≡ judged_ack server reply.now }
 {
-    match wire::reply::option_address(reply, OPT_SUBNET_MASK) {
-        MaybeNumber::None => Verdict::PassedOver(28),
-        MaybeNumber::Some(mask) => match octets::address::prefix_len(mask) {
-            MaybeNumber::None => Verdict::PassedOver(29),
-            MaybeNumber::Some(prefix) => judge_address(server, reply, prefix),
-        },
-    }
-}
-
-// Your-address of an ACK whose prefix is known.
-fn judge_address(server: DhcpServerInfo, reply: &[u8], prefix: u32) -> Verdict
-    requires { prefix ≤ 32 }
-    ensures { result ≡ judged_address server reply.now prefix }
-{
-    match wire::reply::unicast_only(wire::reply::your_ip(reply)) {
-        MaybeNumber::None => Verdict::PassedOver(30),
-        MaybeNumber::Some(address) => Verdict::Ack(Acked {
-            server,
-            address,
-            prefix: prefix as u8,
-        }),
-    }
+    let mask = option_address(reply, OPT_SUBNET_MASK).ok_or(PassedOver::NoMask)?;
+    let prefix = prefix_len(mask).ok_or(PassedOver::BrokenMask)?;
+    let address = unicast_only(your_ip(reply)).ok_or(PassedOver::AckAddress)?;
+    Ok(Verdict::Ack(Acked {
+        server,
+        address,
+        prefix: prefix as u8,
+    }))
 }

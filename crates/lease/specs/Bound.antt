@@ -1,8 +1,7 @@
 -- The moments that an ACK sets (document 01, "Reading a reply"): L, the row of T1 and T2, and Renewing by its times.
-use Rattle.std.specs.Prelude.{ℕ, List}
+use Rattle.std.specs.Prelude.{ℕ, List, Option}
 use Rattle.clock.specs.Durations.{duration}
 use Rattle.clock.specs.declared.instant.Instant.{Instant}
-use Rattle.clock.specs.declared.duration.MaybeDuration.{MaybeDuration}
 use Rattle.octets.specs.Codes.{lease_time_code, renewal_code, rebinding_code}
 use Rattle.wire.specs.Options.{option_data}
 use Rattle.wire.specs.Readings.{seconds_of}
@@ -12,9 +11,10 @@ use Rattle.machine.specs.declared.state.ClientState.{ClientState}
 use Rattle.machine.specs.declared.times.Row.{Row}
 use Rattle.settings.specs.Settings.{maximum_of}
 use Rattle.settings.specs.declared.settings.Settings.{Settings}
+use Rattle.clock.specs.declared.duration.Duration.{Duration}
 
 -- L of a reply, under a maximum.
-abbrev pub reply_lease : MaybeDuration → List ℕ → ℕ
+abbrev pub reply_lease : Option Duration → List ℕ → ℕ
 reply_lease maximum reply = lease_time (seconds_of (option_data lease_time_code reply)) maximum
 
 -- The row of the table of T1 and T2 that a reply with this L falls under.

@@ -1,9 +1,8 @@
 -- The lease that a client holds.
-use Rattle.std.specs.Prelude.{ℕ, Bool, false, not, ◌&&◌, List, take, replicate, ltb, eqb}
+use Rattle.std.specs.Prelude.{ℕ, Bool, false, not, ◌&&◌, List, take, replicate, ltb, eqb, None, Some}
 use Rattle.choice.specs.Choice.{when◌then◌else◌}
 use Rattle.octets.specs.Runs.{same_bytes}
 use Rattle.octets.specs.Codes.{dns_code}
-use Rattle.octets.specs.declared.number.MaybeNumber.TheVariants.{None}
 use Rattle.wire.specs.Options.{option_data}
 use Rattle.wire.specs.Readings.{router, addresses_of}
 use Rattle.wire.specs.Stored.{empty_store, store_of, whole_store, same_options}
@@ -11,7 +10,6 @@ use Rattle.wire.specs.declared.reply.Addresses.{Addresses}
 use Rattle.tables.specs.Tables.{prefix_fits}
 use Rattle.tables.specs.Applied.{same_router}
 use Rattle.tables.specs.declared.apply.Installed.{Installed}
-use Rattle.tables.specs.declared.apply.MaybeCidr.TheVariants.{Absent, Cidr}
 use Rattle.machine.specs.declared.state.DhcpServerInfo.{DhcpServerInfo}
 use Rattle.lease.specs.declared.lease.DhcpLease.{DhcpLease}
 
@@ -62,7 +60,7 @@ same_lease a b = (same_terms a b && same_addresses a.dns b.dns) && same_options 
 
 -- What a lease puts into the tables, and what there is without one.
 abbrev pub installed : DhcpLease → Installed
-installed l = record { address = Cidr l.address l.prefix; router = l.router }
+installed l = record { address = Some (record { address = l.address; prefix = l.prefix }); router = l.router }
 
 abbrev pub nothing : Installed
-nothing = record { address = Absent; router = None }
+nothing = record { address = None; router = None }

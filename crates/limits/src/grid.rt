@@ -1,7 +1,8 @@
 // What `clock` answers at each pair of fifteen numbers round the limits, a line for a pair and a column for an answer:
 // oracle/clock gets the same lines from the Rust. A duration is made of its number by from_millis, as the Rust makes it,
 // and the generator's seed has the first number in its upper half.
-use clock::{Clock, Duration, Instant, MaybeDuration, Rand};
+use clock::{Clock, Duration, Instant, Rand};
+use std::fmt::Display;
 use std::io;
 
 const NUMBERS: [u32; 15] = [
@@ -28,17 +29,21 @@ fn header(rt: &impl Print) -> io::Result<()> {
 }
 
 fn pairs(rt: &impl Print) -> io::Result<()> {
-    let mut n = 0;
-    while n < 225 {
-        pair(rt, NUMBERS[n / 15], NUMBERS[n % 15])?;
-        n += 1;
+    for a in NUMBERS {
+        row(rt, a)?;
+    }
+    Ok(())
+}
+
+fn row(rt: &impl Print, a: u32) -> io::Result<()> {
+    for b in NUMBERS {
+        pair(rt, a, b)?;
     }
     Ok(())
 }
 
 fn pair(rt: &impl Print, a: u32, b: u32) -> io::Result<()> {
-    rt.print(a as u64)?;
-    cell(rt, b)?;
+    print!(rt; "{a},{b}")?;
     instants(
         rt,
         Instant::from_millis(a),
@@ -57,15 +62,15 @@ fn pair(rt: &impl Print, a: u32, b: u32) -> io::Result<()> {
 }
 
 fn seed(a: u32, b: u32) -> u64 {
-    (a as u64) * 4294967296 + (b as u64)
+    u64::from(a) << 32 | u64::from(b)
 }
 
 fn instants(rt: &impl Print, a: Instant, b: Instant, wait: Duration) -> io::Result<()> {
     parts(rt, a)?;
     cell(rt, a.add(wait).as_millis())?;
     cell(rt, a.sub(wait).as_millis())?;
-    truth(rt, a.is_before(b))?;
-    truth(rt, a.is_at_or_before(b))?;
+    cell(rt, u8::from(a.is_before(b)))?;
+    cell(rt, u8::from(a.is_at_or_before(b)))?;
     apart(rt, a, b)
 }
 
@@ -93,7 +98,7 @@ fn lengths(rt: &impl Print, a: Duration) -> io::Result<()> {
     cell(rt, Duration::from_secs(a.as_millis()).as_millis())?;
     cell(rt, a.as_secs())?;
     cell(rt, a.subsec_millis())?;
-    truth(rt, a.is_zero())
+    cell(rt, u8::from(a.is_zero()))
 }
 
 fn sums(rt: &impl Print, a: Duration, b: Duration) -> io::Result<()> {
@@ -125,53 +130,31 @@ fn clocks(rt: &impl Print, clock: Clock, deadline: Instant, delay: Duration) -> 
 
 fn asked(rt: &impl Print, clock: Clock, deadline: Instant) -> io::Result<()> {
     let asked = clock.expired(deadline);
-    truth(rt, asked.expired)?;
-    let after = asked.clock;
-    cell(rt, after.next().as_millis())
+    cell(rt, u8::from(asked.value))?;
+    cell(rt, asked.clock.next().as_millis())
 }
 
 fn timed(rt: &impl Print, clock: Clock, delay: Duration) -> io::Result<()> {
     let set = clock.after(delay);
-    let deadline = set.deadline;
-    let after = set.clock;
-    cell(rt, deadline.as_millis())?;
-    cell(rt, after.next().as_millis())
+    cell(rt, set.value.as_millis())?;
+    cell(rt, set.clock.next().as_millis())
 }
 
 fn draws(rt: &impl Print, rand: Rand) -> io::Result<()> {
     let first = rand.rand_u32();
     cell(rt, first.value)?;
-    let between = first.rand;
-    let second = between.rand_u16();
-    cell(rt, second.value as u32)?;
-    let after = second.rand;
-    wide_cell(rt, after.state)
+    let second = first.rand.rand_u16();
+    cell(rt, second.value)?;
+    cell(rt, second.rand.state)
 }
 
-fn maybe(rt: &impl Print, d: MaybeDuration) -> io::Result<()> {
+fn maybe(rt: &impl Print, d: Option<Duration>) -> io::Result<()> {
     match d {
-        MaybeDuration::None => {
-            rt.write_all(b",none")?;
-        }
-        MaybeDuration::Some(d) => cell(rt, d.as_millis())?,
+        Some(d) => cell(rt, d.as_millis()),
+        None => cell(rt, "none"),
     }
-    Ok(())
 }
 
-fn truth(rt: &impl Print, holds: bool) -> io::Result<()> {
-    if holds {
-        cell(rt, 1)?;
-    } else {
-        cell(rt, 0)?;
-    }
-    Ok(())
-}
-
-fn cell(rt: &impl Print, n: u32) -> io::Result<()> {
-    wide_cell(rt, n as u64)
-}
-
-fn wide_cell(rt: &impl Print, n: u64) -> io::Result<()> {
-    rt.write_all(b",")?;
-    rt.print(n)
+fn cell(rt: &impl Print, value: impl Display + Drop) -> io::Result<()> {
+    print!(rt; ",{value}")
 }

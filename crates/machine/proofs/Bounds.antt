@@ -1,24 +1,21 @@
 -- How far on the moments of an ACK lie: expiry at most the longest duration, renew and rebind less far. Assumes nothing.
+use Rattle.std.proofs.Common.{Option, None, Some}
 use Prim.Native.Nat.{ℕ, ◌≤◌, ◌<◌}
 use native.Mathlib.Omega.{arith}
 use borrow.Author.Tests.{ltb-true}
 use lib.Dec.{ltb}
 use Rattle.clock.specs.Durations.{longest}
 use Rattle.clock.specs.declared.duration.Duration.{Duration}
-use Rattle.clock.specs.declared.duration.MaybeDuration.{MaybeDuration}
-use Rattle.clock.specs.declared.duration.MaybeDuration.TheVariants as time
 use Rattle.choice.proofs.Choices.{if_cases}
-use Rattle.octets.specs.declared.number.MaybeNumber.{MaybeNumber}
-use Rattle.octets.specs.declared.number.MaybeNumber.TheVariants.{None, Some}
 use Rattle.machine.specs.Times.{lease_time, row_of, both_row, renew_after, rebind_after}
 use Rattle.machine.specs.declared.times.Row.{Row}
 
-pub lease_most : (said : MaybeNumber) (maximum : MaybeDuration) → lease_time said maximum ≤ longest
+pub lease_most : (said : Option ℕ) (maximum : Option Duration) → lease_time said maximum ≤ longest
 unfolding lease_time
-lease_most None time.None = omega arith
-lease_most None (time.Some m) = omega arith
-lease_most (Some s) time.None = omega arith
-lease_most (Some s) (time.Some m) = omega arith
+lease_most None None = omega arith
+lease_most None (Some m) = omega arith
+lease_most (Some s) None = omega arith
+lease_most (Some s) (Some m) = omega arith
 
 -- renew and rebind lie less far on than the longest duration
 abbrev pub Nearer : ℕ → Row → Type 0
@@ -33,10 +30,10 @@ both_nearer t1 t2 l h =
     (λ q. (omega arith, omega arith)))
     (λ p. (omega arith, omega arith))
 
-pub row_nearer : (t1 t2 : MaybeDuration) (l : ℕ) → l ≤ longest → Nearer l (row_of t1 t2 l)
-row_nearer (time.Some t1) (time.Some t2) l h = both_nearer t1 t2 l h
-row_nearer (time.Some t1) time.None l h =
+pub row_nearer : (t1 t2 : Option Duration) (l : ℕ) → l ≤ longest → Nearer l (row_of t1 t2 l)
+row_nearer (Some t1) (Some t2) l h = both_nearer t1 t2 l h
+row_nearer (Some t1) None l h =
     if_cases (Nearer l) (ltb t1.millis l) (λ p. (omega (arith, ltb-true t1.millis l p), omega (arith, ltb-true t1.millis l p))) (λ p. (omega arith, omega arith))
-row_nearer time.None (time.Some t2) l h =
+row_nearer None (Some t2) l h =
     if_cases (Nearer l) (ltb t2.millis l) (λ p. (omega (arith, ltb-true t2.millis l p), omega (arith, ltb-true t2.millis l p))) (λ p. (omega arith, omega arith))
-row_nearer time.None time.None l h = (omega arith, omega arith)
+row_nearer None None l h = (omega arith, omega arith)

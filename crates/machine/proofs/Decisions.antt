@@ -21,7 +21,7 @@ use Rattle.machine.specs.declared.state.RequestState.{RequestState}
 use Rattle.machine.specs.declared.state.RenewState.{RenewState}
 use Rattle.machine.specs.declared.decide.Sending.{Sending}
 use Rattle.machine.specs.declared.decide.Sending.TheVariants as message
-use Rattle.machine.specs.declared.decide.Due.TheVariants.{Nothing, Send}
+use Rattle.std.proofs.Common.{None, Some}
 use Rattle.machine.specs.declared.decide.Decision.{Decision}
 use Rattle.machine.proofs.Timers.{Timers, unset, single, leased, Shows, init, discovering as discovering-shows, requesting as requesting-shows, renewing as renewing-shows, Near, Ahead, soonest, wake_at}
 
@@ -39,9 +39,9 @@ pub data Goes (t : ℕ) : Timers → Sending → Timers → Type 0 where
 
 -- The two outcomes.
 pub data Decides (t : ℕ) (x : Timers) : Decision → Type 0 where
-  nothing : {m : ℕ} → m ≡ wrap (wake_at t x) → Ahead t x → Decides t x (record { due = Nothing; wake = moment m })
+  nothing : {m : ℕ} → m ≡ wrap (wake_at t x) → Ahead t x → Decides t x (record { due = None; wake = moment m })
   sending : {m : ℕ} {s : Sending} (x' : Timers) → m ≡ wrap (wake_at t x') → Goes t x s x' → Shows x' (following s) → Ahead t x' → soonest x ≤ t
-      → Decides t x (record { due = Send s; wake = moment m })
+      → Decides t x (record { due = Some s; wake = moment m })
 
 -- the waking moment with one deadline, and with one beside expiry
 wakes_once : (t d : ℕ) {m : ℕ} → m ≡ wrap d → t < d → d ≤ t + longest → waking (wrap t) (m ∷ []) ≡ wrap (min (t + day) d)

@@ -1,6 +1,5 @@
-pub mod Rows
 pub mod Order
 pub mod Bounds
-pub mod Deadlines
+pub mod Doublings
 pub mod Timers
 pub mod Decisions

@@ -1,6 +1,6 @@
 -- What a poll does, as far as the state, the waits and the moment decide it (document 01, "Polling"). Moments are the
 -- Rust's, at every distance: those at exactly 2^31 ms, too, which no run from a fresh client meets. `decided` is the whole.
-use Rattle.std.specs.Prelude.{ℕ, ◌+◌, ◌*◌, ◌/◌, ◌^◌, ◌≤◌, min, max, Bool, true, false, not, List, [], ◌∷◌, leb}
+use Rattle.std.specs.Prelude.{ℕ, ◌+◌, ◌*◌, ◌/◌, ◌^◌, ◌≤◌, min, max, Bool, true, false, not, List, [], ◌∷◌, leb, None, Some}
 use Rattle.choice.specs.Choice.{when◌then◌else◌}
 use Rattle.clock.specs.Durations.{clamp}
 use Rattle.clock.specs.Moments.{plus, before, due, rest, earlier, moment}
@@ -13,7 +13,6 @@ use Rattle.machine.specs.declared.state.RequestState.{RequestState}
 use Rattle.machine.specs.declared.state.RenewState.{RenewState}
 use Rattle.machine.specs.declared.decide.Sending.{Sending}
 use Rattle.machine.specs.declared.decide.Sending.TheVariants.{Discover, Request, Renew}
-use Rattle.machine.specs.declared.decide.Due.TheVariants.{Nothing, Send}
 use Rattle.machine.specs.declared.decide.Decision.{Decision}
 
 -- "The waking moment is the earliest open deadline, at most 86,400,000 ms on": deadlines are gathered in the order given.
@@ -26,10 +25,10 @@ waking now deadlines = earliest (plus now day) deadlines
 
 -- Nothing is due, and these deadlines are open; or a message is, and these are open after it.
 abbrev pub waits : ℕ → List ℕ → Decision
-waits now deadlines = record { due = Nothing; wake = moment (waking now deadlines) }
+waits now deadlines = record { due = None; wake = moment (waking now deadlines) }
 
 abbrev pub sends : ℕ → Sending → List ℕ → Decision
-sends now sending deadlines = record { due = Send sending; wake = moment (waking now deadlines) }
+sends now sending deadlines = record { due = Some sending; wake = moment (waking now deadlines) }
 
 -- "Discover: [..] again after 10 s."
 abbrev pub discovering : Waits → ℕ → DiscoverState

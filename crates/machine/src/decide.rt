@@ -1,15 +1,17 @@
 // What a poll does, as far as the state, the waits and the moment decide it.
-ghost use Rattle.std.specs.Prelude.{◌≡◌, false, [], ◌∷◌, ◌/◌, ◌<◌, max};
+#![tactic(auto, using(choice::proofs::Choices::if_true, choice::proofs::Choices::if_false, crate::proofs::Doublings::most_doublings), unfolding(clock::specs::Clocks::clock_at, clock::specs::Clocks::gathering, clock::specs::Clocks::expired_at, clock::specs::Clocks::timer_after, crate::specs::Decisions::decided_discovering, crate::specs::Decisions::decided_requesting, crate::specs::Decisions::next_retry, crate::specs::Decisions::rebinds, crate::specs::Decisions::decided_renewing, crate::specs::Decisions::decided))]
+
+ghost use Rattle.std.specs.Prelude.{◌≡◌, false, [], ◌∷◌, ◌/◌, ◌<◌, max, None, Some};
 ghost use Rattle.clock.specs.Durations.{duration};
-ghost use Rattle.clock.specs.Moments.{due, earlier, moment};
-ghost use Rattle.machine.specs.Decisions.{waking, sends, discovers, decided_discovering, request_wait, requested, decided_requesting, next_retry, rebinds, renew_wait, renewed, rebind_wait, rebound, decided_renewing, decided, following};
+ghost use Rattle.clock.specs.Moments.{due, moment};
+ghost use Rattle.machine.specs.Decisions.{waking, sends, discovers, decided_discovering, request_wait, requested, decided_requesting, next_retry, rebinds, renew_wait, rebind_wait, decided_renewing, decided, following};
 
 use crate::state::{ClientState, DiscoverState, RenewState, RequestState, Tries};
 use crate::times::half;
 use clock::{Clock, Duration, Instant, Waits};
 
 // A message that a poll sends, with the state that follows it.
-#[derive(Clone, Copy)]
+#[derive(Clone, Copy, Debug, PartialEq, Eq)]
 pub enum Sending {
     // A Discover: a lease that is held is dropped first.
     Discover(DiscoverState),
@@ -19,22 +21,17 @@ pub enum Sending {
     Renew(RenewState),
 }
 
-#[derive(Clone, Copy)]
-pub enum Due {
-    Nothing,
-    Send(Sending),
-}
-
-// What is due at a moment, and when the next poll is wanted.
-#[derive(Clone, Copy)]
+// The message that is due at a moment, if one is, and when the next poll is wanted.
+#[derive(Clone, Copy, Debug, PartialEq, Eq)]
 pub struct Decision {
-    pub due: Due,
+    pub due: Option<Sending>,
     pub wake: Instant,
 }
 
 // Doubled so often, every wait but zero is Duration::MAX or longer.
 const MOST_DOUBLINGS: u16 = 30;
 
+// The waits and the moment stay two parameters: each is used alone, and a struct of both would be taken apart at each use.
 impl ClientState {
     // What a poll at now does.
     pub fn decide(self, waits: Waits, now: Instant) -> Decision
@@ -50,7 +47,7 @@ impl ClientState {
 }
 
 impl Sending {
-    // The state that follows a message.
+    // The state that follows a message. A step, and no From: a ClientState made from a Sending would not say which comes first.
     pub fn following(self) -> ClientState
         ensures { result ≡ following self }
     {
@@ -62,27 +59,23 @@ impl Sending {
     }
 }
 
-impl Decision {
-    // Nothing is due before the deadlines that a clock has gathered.
-    fn wait(clock: Clock) -> Decision
-        ensures { result ≡ record { due = Due.Nothing; wake = clock.next } }
-    {
-        let wake = clock.next;
-        Decision {
-            due: Due::Nothing,
-            wake,
-        }
+// What a poll does that sends a message, by a clock that has gathered the deadlines after it.
+fn sent(sending: Sending, clock: Clock) -> Decision
+    ensures { result ≡ record { due = Some sending; wake = clock.next } }
+{
+    Decision {
+        due: Some(sending),
+        wake: clock.next,
     }
+}
 
-    // A message is due, and then nothing before the deadlines that a clock has gathered.
-    fn send(sending: Sending, clock: Clock) -> Decision
-        ensures { result ≡ record { due = Due.Send sending; wake = clock.next } }
-    {
-        let wake = clock.next;
-        Decision {
-            due: Due::Send(sending),
-            wake,
-        }
+// What a poll does that sends none, by a clock that has gathered the open deadlines.
+fn waiting(clock: Clock) -> Decision
+    ensures { result ≡ record { due = None; wake = clock.next } }
+{
+    Decision {
+        due: None,
+        wake: clock.next,
     }
 }
 
@@ -91,8 +84,10 @@ fn discover(waits: Waits, now: Instant) -> Decision
     ensures { result ≡ discovers waits now.millis }
 {
     let timer = Clock::new(now).after(waits.discover_timeout);
-    let retry_at = timer.deadline;
-    Decision::send(Sending::Discover(DiscoverState { retry_at }), timer.clock)
+    let next = DiscoverState {
+        retry_at: timer.value,
+    };
+    sent(Sending::Discover(next), timer.clock)
 }
 
 impl DiscoverState {
@@ -100,10 +95,11 @@ impl DiscoverState {
         ensures { result ≡ decided_discovering waits self now.millis }
     {
         let retry = Clock::new(now).expired(self.retry_at);
-        if retry.expired {
-            return discover(waits, now);
+        if retry.value {
+            discover(waits, now)
+        } else {
+            waiting(retry.clock)
         }
-        Decision::wait(retry.clock)
     }
 }
 
@@ -111,15 +107,14 @@ impl RequestState {
     fn decide(self, waits: Waits, now: Instant) -> Decision
         ensures { result ≡ decided_requesting waits self now.millis }
     {
-        let tries = self.tries;
-        let retry = Clock::new(now).expired(tries.retry_at);
-        if !retry.expired {
-            return Decision::wait(retry.clock);
+        let retry = Clock::new(now).expired(self.tries.retry_at);
+        if !retry.value {
+            waiting(retry.clock)
+        } else if waits.request_retries <= self.tries.retry {
+            discover(waits, now)
+        } else {
+            self.request(waits, now)
         }
-        if waits.request_retries <= tries.retry {
-            return discover(waits, now);
-        }
-        self.request(waits, now)
     }
 
     // The Request, sent once more while there are tries left.
@@ -127,17 +122,15 @@ impl RequestState {
         requires { self.tries.retry < waits.request_retries }
         ensures { result ≡ sends now.millis (Sending.Request (requested waits self now.millis)) ((requested waits self now.millis).tries.retry_at.millis ∷ []) }
     {
-        let tries = self.tries;
-        let retry = tries.retry + 1;
-        let server = self.server;
-        let timer = Clock::new(now).after(request_wait(waits, tries.retry));
-        let retry_at = timer.deadline;
-        let next = RequestState {
-            tries: Tries { retry_at, retry },
-            server,
-            requested_ip: self.requested_ip,
+        let timer = Clock::new(now).after(request_wait(waits, self.tries.retry));
+        let tries = Tries {
+            retry_at: timer.value,
+            retry: self.tries.retry + 1,
         };
-        Decision::send(Sending::Request(next), timer.clock)
+        sent(
+            Sending::Request(RequestState { tries, ..self }),
+            timer.clock,
+        )
     }
 }
 
@@ -145,12 +138,10 @@ impl RequestState {
 fn request_wait(waits: Waits, tried: u16) -> Duration
     ensures { result ≡ duration (request_wait waits tried) }
 {
-    let first = waits.initial_request_timeout;
     let doublings = tried / 2;
-    if doublings < MOST_DOUBLINGS {
-        return first.saturating_mul(1 << doublings);
-    }
-    first.saturating_mul(1 << MOST_DOUBLINGS)
+    waits
+        .initial_request_timeout
+        .saturating_mul(1 << doublings.min(MOST_DOUBLINGS))
 }
 
 impl RenewState {
@@ -158,10 +149,11 @@ impl RenewState {
         ensures { result ≡ decided_renewing waits self now.millis }
     {
         let expiry = Clock::new(now).expired(self.expires_at);
-        if expiry.expired {
-            return discover(waits, now);
+        if expiry.value {
+            discover(waits, now)
+        } else {
+            self.decide_unexpired(waits, expiry.clock)
         }
-        self.decide_unexpired(waits, expiry.clock)
     }
 
     // The same while the lease lasts, by a clock that has gathered its end.
@@ -171,77 +163,50 @@ impl RenewState {
         ensures { result ≡ decided_renewing waits self clock.now.millis }
     {
         let retry = clock.expired(self.retry_at());
-        if !retry.expired {
-            return Decision::wait(retry.clock);
+        if !retry.value {
+            waiting(retry.clock)
+        } else if self.rebinds(clock.now) {
+            let timer = clock.after(self.rebind_wait(waits, clock.now));
+            let next = RenewState {
+                rebind_at: timer.value,
+                rebinding: true,
+                ..self
+            };
+            sent(Sending::Renew(next), timer.clock)
+        } else {
+            let timer = clock.after(self.renew_wait(waits, clock.now));
+            let next = RenewState {
+                renew_at: timer.value,
+                rebinding: false,
+                ..self
+            };
+            sent(Sending::Renew(next), timer.clock)
         }
-        if self.rebinds(clock.now) {
-            return self.rebind(waits, clock);
-        }
-        self.renew(waits, clock)
     }
 
     // When the next Request is due.
     fn retry_at(self) -> Instant
         ensures { result ≡ moment (next_retry self) }
     {
-        let renew_at = self.renew_at;
-        let rebind_at = self.rebind_at;
         if self.rebinding {
-            return rebind_at;
+            self.rebind_at
+        } else {
+            self.renew_at.min(self.rebind_at)
         }
-        renew_at.min(rebind_at)
     }
 
     // Whether a Request goes to any server: once one did, the rest do.
     fn rebinds(self, now: Instant) -> bool
         ensures { result ≡ rebinds self now.millis }
     {
-        if self.rebinding {
-            return true;
-        }
-        !now.is_before(self.rebind_at)
-    }
-
-    // A Request to the server that leased the address.
-    fn renew(self, waits: Waits, clock: Clock) -> Decision
-        ensures { result ≡ record { due = Due.Send (Sending.Renew (renewed waits self clock.now.millis)); wake = moment (earlier clock.next.millis (renewed waits self clock.now.millis).renew_at.millis) } }
-    {
-        let rebind_at = self.rebind_at;
-        let expires_at = self.expires_at;
-        let timer = clock.after(self.renew_wait(waits, clock.now));
-        let renew_at = timer.deadline;
-        let next = RenewState {
-            renew_at,
-            rebind_at,
-            expires_at,
-            rebinding: false,
-        };
-        Decision::send(Sending::Renew(next), timer.clock)
-    }
-
-    // A Request to any server.
-    fn rebind(self, waits: Waits, clock: Clock) -> Decision
-        ensures { result ≡ record { due = Due.Send (Sending.Renew (rebound waits self clock.now.millis)); wake = moment (earlier clock.next.millis (rebound waits self clock.now.millis).rebind_at.millis) } }
-    {
-        let renew_at = self.renew_at;
-        let expires_at = self.expires_at;
-        let timer = clock.after(self.rebind_wait(waits, clock.now));
-        let rebind_at = timer.deadline;
-        let next = RenewState {
-            renew_at,
-            rebind_at,
-            expires_at,
-            rebinding: true,
-        };
-        Decision::send(Sending::Renew(next), timer.clock)
+        self.rebinding || !now.is_before(self.rebind_at)
     }
 
     // No longer than until any server is asked.
     fn renew_wait(self, waits: Waits, now: Instant) -> Duration
         ensures { result ≡ duration (renew_wait waits self now.millis) }
     {
-        let rebind_at = self.rebind_at;
-        let rest = rebind_at.duration_since(now);
+        let rest = self.rebind_at.duration_since(now);
         half_or_least(rest, waits).min(rest)
     }
 
@@ -249,8 +214,7 @@ impl RenewState {
     fn rebind_wait(self, waits: Waits, now: Instant) -> Duration
         ensures { result ≡ duration (rebind_wait waits self now.millis) }
     {
-        let expires_at = self.expires_at;
-        half_or_least(expires_at.duration_since(now), waits)
+        half_or_least(self.expires_at.duration_since(now), waits)
     }
 }
 
@@ -258,6 +222,5 @@ impl RenewState {
 fn half_or_least(rest: Duration, waits: Waits) -> Duration
     ensures { result ≡ duration (max waits.min_renew_timeout.millis (rest.millis / 2)) }
 {
-    let least = waits.min_renew_timeout;
-    least.max(half(rest))
+    waits.min_renew_timeout.max(half(rest))
 }

@@ -9,6 +9,6 @@ pub mod decide;
 pub mod state;
 pub mod times;
 
-pub use decide::{Decision, Due, Sending};
+pub use decide::{Decision, Sending};
 pub use state::{ClientState, DhcpServerInfo, DiscoverState, RenewState, RequestState, Tries};
 pub use times::{Row, Times, lease_duration, timer};

@@ -6,7 +6,7 @@ use crate::times::Times;
 use clock::{Duration, Instant};
 
 // How to reach a server.
-#[derive(Clone, Copy)]
+#[derive(Clone, Copy, Debug, PartialEq, Eq)]
 pub struct DhcpServerInfo {
     // Where its messages come from, and renewals go to.
     pub address: u32,
@@ -14,14 +14,14 @@ pub struct DhcpServerInfo {
     pub identifier: u32,
 }
 
-#[derive(Clone, Copy)]
+#[derive(Clone, Copy, Debug, PartialEq, Eq)]
 pub struct DiscoverState {
     // When to send the next Discover.
     pub retry_at: Instant,
 }
 
 // A message that is sent again until it is answered.
-#[derive(Clone, Copy)]
+#[derive(Clone, Copy, Debug, PartialEq, Eq)]
 pub struct Tries {
     // When to send it next.
     pub retry_at: Instant,
@@ -29,7 +29,7 @@ pub struct Tries {
     pub retry: u16,
 }
 
-#[derive(Clone, Copy)]
+#[derive(Clone, Copy, Debug, PartialEq, Eq)]
 pub struct RequestState {
     pub tries: Tries,
     // Whom the address is requested from.
@@ -38,7 +38,7 @@ pub struct RequestState {
 }
 
 // The timers of a lease, which stands beside the state.
-#[derive(Clone, Copy)]
+#[derive(Clone, Copy, Debug, PartialEq, Eq)]
 pub struct RenewState {
     // From here on the server is asked to renew the lease.
     pub renew_at: Instant,
@@ -50,7 +50,7 @@ pub struct RenewState {
     pub rebinding: bool,
 }
 
-#[derive(Clone, Copy)]
+#[derive(Clone, Copy, Debug, PartialEq, Eq)]
 pub enum ClientState {
     // Starting over: a Discover is due at the next poll.
     Init,
@@ -65,12 +65,7 @@ impl ClientState {
     pub fn has_lease(self) -> bool
         ensures { result ≡ has_lease self }
     {
-        match self {
-            ClientState::Init => false,
-            ClientState::Discovering(s) => false,
-            ClientState::Requesting(s) => false,
-            ClientState::Renewing(s) => true,
-        }
+        matches!(self, ClientState::Renewing(_))
     }
 
     // Requesting the address that a server offered, due now.
@@ -91,11 +86,9 @@ impl ClientState {
     pub fn renewing(times: Times, lease: Duration, now: Instant) -> ClientState
         ensures { result ≡ renewing times lease now }
     {
-        let renew = times.renew;
-        let rebind = times.rebind;
         ClientState::Renewing(RenewState {
-            renew_at: now.add(renew),
-            rebind_at: now.add(rebind),
+            renew_at: now.add(times.renew),
+            rebind_at: now.add(times.rebind),
             expires_at: now.add(lease),
             rebinding: false,
         })

@@ -1,16 +1,17 @@
 // How long a lease is, and when it is renewed and rebound.
+#![tactic(auto, using(choice::proofs::Choices::if_true, choice::proofs::Choices::if_false), unfolding(crate::specs::Times::lease_time, crate::specs::Times::both_row, crate::specs::Times::times_of))]
+
 ghost use Rattle.std.specs.Prelude.{◌≡◌, ◌+◌, ◌*◌, ◌-◌, ◌/◌};
 ghost use Rattle.clock.specs.Durations.{duration};
-ghost use Rattle.machine.specs.Times.{given, or_default, lease_time, row_of, both_row, times_of};
+ghost use Rattle.machine.specs.Times.{given, lease_time, row_of, times_of};
 
-use clock::{Duration, MaybeDuration};
-use octets::MaybeNumber;
+use clock::Duration;
 
 // Of a lease for which the server names no time.
 const DEFAULT_LEASE_DURATION: Duration = Duration { millis: 120000 };
 
 // The row of document 01's table that a lease falls under, with the times that it is given there.
-#[derive(Clone, Copy)]
+#[derive(Clone, Copy, Debug, PartialEq, Eq)]
 pub enum Row {
     // T1 < T2 < L
     Both { renew: Duration, rebind: Duration },
@@ -23,82 +24,42 @@ pub enum Row {
 }
 
 // How long after the ACK a lease is renewed and rebound.
-#[derive(Clone, Copy)]
+#[derive(Clone, Copy, Debug, PartialEq, Eq)]
 pub struct Times {
     pub renew: Duration,
     pub rebind: Duration,
 }
 
 // The time that an option gives in seconds.
-pub fn timer(seconds: MaybeNumber) -> MaybeDuration
+pub fn timer(seconds: Option<u32>) -> Option<Duration>
     ensures { result ≡ given seconds }
 {
-    match seconds {
-        MaybeNumber::Some(n) => MaybeDuration::Some(Duration::from_secs(n)),
-        MaybeNumber::None => MaybeDuration::None,
-    }
+    seconds.map(Duration::from_secs)
 }
 
 // L: as the server says, or 120 s, and at most the maximum.
-pub fn lease_duration(seconds: MaybeNumber, maximum: MaybeDuration) -> Duration
+pub fn lease_duration(seconds: Option<u32>, maximum: Option<Duration>) -> Duration
     ensures { result ≡ duration (lease_time seconds maximum) }
 {
-    let said = or_default(timer(seconds));
-    match maximum {
-        MaybeDuration::Some(limit) => said.min(limit),
-        MaybeDuration::None => said,
-    }
-}
-
-// A time that was given, or 120 s.
-fn or_default(time: MaybeDuration) -> Duration
-    ensures { result ≡ or_default time }
-{
-    match time {
-        MaybeDuration::Some(d) => d,
-        MaybeDuration::None => DEFAULT_LEASE_DURATION,
-    }
-}
-
-fn both_row(t1: Duration, t2: Duration, lease: Duration) -> Row
-    ensures { result ≡ both_row t1 t2 lease.millis }
-{
-    if t1.millis < t2.millis {
-        if t2.millis < lease.millis {
-            return Row::Both {
-                renew: t1,
-                rebind: t2,
-            };
-        }
-        return Row::Neither;
-    }
-    Row::Neither
+    let said = timer(seconds).unwrap_or(DEFAULT_LEASE_DURATION);
+    maximum.map_or(said, |limit| said.min(limit))
 }
 
 impl Row {
     // The row of a lease with these options 58 and 59.
-    pub fn of(renew: MaybeDuration, rebind: MaybeDuration, lease: Duration) -> Row
+    pub fn of(renew: Option<Duration>, rebind: Option<Duration>, lease: Duration) -> Row
         ensures { result ≡ row_of renew rebind lease.millis }
     {
-        match renew {
-            MaybeDuration::Some(t1) => match rebind {
-                MaybeDuration::Some(t2) => both_row(t1, t2, lease),
-                MaybeDuration::None => {
-                    if t1.millis < lease.millis {
-                        return Row::OnlyRenew(t1);
-                    }
-                    Row::Neither
+        match (renew, rebind) {
+            (Some(t1), Some(t2)) if t1 < t2 && t2 < lease => {
+                Row::Both {
+                    renew: t1,
+                    rebind: t2,
                 }
-            },
-            MaybeDuration::None => match rebind {
-                MaybeDuration::Some(t2) => {
-                    if t2.millis < lease.millis {
-                        return Row::OnlyRebind(t2);
-                    }
-                    Row::Neither
-                }
-                MaybeDuration::None => Row::Neither,
-            },
+            }
+            (Some(t1), None) if t1 < lease => Row::OnlyRenew(t1),
+            (None, Some(t2)) if t2 < lease => Row::OnlyRebind(t2),
+            _ => Row::Neither,
         }
     }
 
@@ -138,10 +99,7 @@ pub(crate) fn half(time: Duration) -> Duration
 fn late(renew: Duration, lease: Duration) -> Duration
     ensures { result ≡ duration (renew.millis + (lease.millis - renew.millis) / 4 * 3) }
 {
-    if lease.millis <= renew.millis {
-        return renew;
-    }
     Duration {
-        millis: renew.millis + (lease.millis - renew.millis) / 4 * 3,
+        millis: renew.millis + lease.millis.saturating_sub(renew.millis) / 4 * 3,
     }
 }

@@ -6,7 +6,10 @@ use native.Mathlib.Omega.{arith}
 use native.Mathlib.Decide.{dec_le}
 use borrow.Author.Tests.{eq-eqb, ne_eqb, le-leb, lt-leb}
 use Rattle.choice.specs.Choice.{when◌then◌else◌}
-use lib.ListN.{length, get_or, drop}
+use lib.ListN.{length, get_or, take, drop, length-drop}
+use Rattle.std.proofs.Common.{zero, suc, min, append-nil, drop-drop, get_or-take, get_or-drop}
+use Rattle.std.specs.Prelude.{unwrap_or, slice_get}
+use Rattle.std.specs.Simd.{first_chunks}
 use Rattle.octets.specs.Words.{word16}
 use Rattle.message.specs.Datagrams.{ones_add, ones_sum, pseudo_header}
 use Rattle.message.specs.Pieces.{carried_in}
@@ -18,17 +21,25 @@ sum_two start [] h = absurd (omega arith)
 sum_two start (a ∷ []) h = absurd (omega arith)
 sum_two start (a ∷ b ∷ xs) h = refl
 
--- one octet left, and none
-pub sum_one : (start : ℕ) (t : List ℕ) → length t ≡ 1 → ones_sum start t ≡ ones_add start (word16 (get_or t 0 0) 0)
-unfolding ones_sum
-sum_one start [] h = absurd (omega arith)
-sum_one start (a ∷ []) h = refl
-sum_one start (a ∷ b ∷ xs) h = absurd (omega arith)
-
-pub sum_none : (start : ℕ) (t : List ℕ) → length t < 1 → ones_sum start t ≡ start
+-- none left
+pub sum_none : (start : ℕ) (t : List ℕ) → length t ≡ 0 → ones_sum start t ≡ start
 unfolding ones_sum
 sum_none start [] h = refl
 sum_none start (a ∷ xs) h = absurd (omega arith)
+
+-- whole words, and then the rest
+pub sum_words : (k : ℕ) (start : ℕ) (a b : List ℕ) → length a ≡ k * 2 → ones_sum start (a ++ b) ≡ ones_sum (ones_sum start a) b
+unfolding ones_sum
+sum_words zero start [] b h = refl
+sum_words zero start (x ∷ a) b h = absurd (omega arith)
+sum_words (suc k) start [] b h = absurd (omega arith)
+sum_words (suc k) start (x ∷ []) b h = absurd (omega arith)
+sum_words (suc k) start (x ∷ y ∷ a) b h = sum_words k (ones_add start (word16 x y)) a b (omega arith)
+
+pub sum_part : (start : ℕ) (a b : List ℕ) → length a ≡ min 65534 (length a + length b) → ones_sum start (a ++ b) ≡ ones_sum (ones_sum start a) b
+unfolding ones_sum
+sum_part start a [] h = ap (λ (l : List ℕ). ones_sum start l) (append-nil a)
+sum_part start a (x ∷ b) h = sum_words 32767 start a (x ∷ b) (omega arith)
 
 -- the pseudo header's twelve octets are six words
 pub sum_head : (source destination n : ℕ) (d : List ℕ) → ones_sum 0 (pseudo_header source destination n ++ d) ≡ ones_sum (ones_sum 0 (pseudo_header source destination n)) d
@@ -105,18 +116,37 @@ pub low_two : (start sum : ℕ) (t : List ℕ) → 2 ≤ length t → get_or t 0
     ones_sum (carried_in (start + 256 * sum)) t ≡ ones_sum (carried_in (start + 256 * (sum + word16 (get_or t 1 0) (get_or t 0 0)))) (drop 2 t)
 low_two start sum t h a b = sum_two (carried_in (start + 256 * sum)) t h ∙ ap (λ (n : ℕ). ones_sum n (drop 2 t)) (low_add start sum (get_or t 0 0) (get_or t 1 0) a b)
 
-pub low_four : (start sum : ℕ) (t : List ℕ) → 4 ≤ length t → get_or t 0 0 ≤ 255 → get_or t 1 0 ≤ 255 → get_or t 2 0 ≤ 255 → get_or t 3 0 ≤ 255 →
-    ones_sum (carried_in (start + 256 * sum)) t ≡ ones_sum (carried_in (start + 256 * (sum + word16 (get_or t 1 0) (get_or t 0 0) + word16 (get_or t 3 0) (get_or t 2 0)))) (drop 4 t)
-low_four start sum [] h a b c d = absurd (omega arith)
-low_four start sum (w ∷ []) h a b c d = absurd (omega arith)
-low_four start sum (w ∷ x ∷ []) h a b c d = absurd (omega arith)
-low_four start sum (w ∷ x ∷ y ∷ []) h a b c d = absurd (omega arith)
-low_four start sum (w ∷ x ∷ y ∷ z ∷ t) h a b c d =
-    low_two start sum (w ∷ x ∷ y ∷ z ∷ t) (omega arith) a b ∙ low_two start (sum + word16 x w) (y ∷ z ∷ t) (omega arith) c d
+chunk_at : (k : ℕ) (xs : List ℕ) (i : ℕ) → i < k → get_or (first_chunks 2 k xs) i [] ≡ take 2 (drop (i * 2) xs)
+chunk_at zero xs i h = absurd (omega arith)
+chunk_at (suc k) xs zero h = refl
+chunk_at (suc k) xs (suc i) h = let e : 2 + i * 2 ≡ suc i * 2 = omega arith in
+    chunk_at k (drop 2 xs) i (omega arith) ∙ ap (take 2) (drop-drop (i * 2) 2 xs ∙ ap (λ (n : ℕ). drop n xs) e)
 
-pub low_one : (start sum : ℕ) (t : List ℕ) → length t ≡ 1 → get_or t 0 0 ≤ 255 →
-    ones_sum (carried_in (start + 256 * sum)) t ≡ carried_in (start + 256 * (sum + word16 0 (get_or t 0 0)))
-low_one start sum t h a = sum_one (carried_in (start + 256 * sum)) t h ∙ low_add start sum (get_or t 0 0) 0 a (omega arith)
+pub low_word : (start sum i w : ℕ) (s : List ℕ) → i < length s / 2 → ((k : ℕ) → get_or s k 0 ≤ 255)
+    → w ≡ get_or (get_or (first_chunks 2 (length s / 2) s) i []) 0 0 + get_or (get_or (first_chunks 2 (length s / 2) s) i []) 1 0 * 256
+    → ones_sum (carried_in (start + 256 * sum)) (drop (i * 2) s) ≡ ones_sum (carried_in (start + 256 * (sum + w))) (drop ((i + 1) * 2) s)
+low_word start sum i w s h octets e =
+    let t = drop (i * 2) s in
+    let chunk = chunk_at (length s / 2) s i h in
+    let low = ap (λ (xs : List ℕ). get_or xs 0 0) chunk ∙ get_or-take 2 t 0 0 (omega arith) in
+    let high = ap (λ (xs : List ℕ). get_or xs 1 0) chunk ∙ get_or-take 2 t 1 0 (omega arith) in
+    let a : get_or t 0 0 ≤ 255 = rw get_or-drop (octets (i * 2 + 0)) in
+    let b : get_or t 1 0 ≤ 255 = rw get_or-drop (octets (i * 2 + 1)) in
+    let f : word16 (get_or t 1 0) (get_or t 0 0) ≡ w = omega arith in
+    let g : i * 2 + 2 ≡ (i + 1) * 2 = omega arith in
+    low_two start sum t (omega (arith, length-drop (i * 2) s)) a b ∙ (λ j. ones_sum (carried_in (start + 256 * (sum + f j))) ((drop-drop 2 (i * 2) s ∙ ap (λ (n : ℕ). drop n s) g) j))
+
+pub low_last : (start sum : ℕ) (t : List ℕ) → length t < 2 → get_or t 0 0 ≤ 255 →
+    ones_sum (carried_in (start + 256 * sum)) t ≡ carried_in (start + 256 * (sum + get_or t 0 0))
+unfolding ones_sum
+low_last start sum [] h a = let e : start + 256 * sum ≡ start + 256 * (sum + 0) = omega arith in ap carried_in e
+low_last start sum (x ∷ []) h a = let e : start + 256 * (sum + word16 0 x) ≡ start + 256 * (sum + x) = omega arith in
+    low_add start sum x 0 a (omega arith) ∙ ap carried_in e
+low_last start sum (x ∷ y ∷ t) h a = absurd (omega arith)
+
+pub first_or : (t : List ℕ) → unwrap_or (slice_get t 0) 0 ≡ get_or t 0 0
+first_or [] = refl
+first_or (x ∷ t) = refl
 
 -- the octets of such a sum swapped back
 pub in_swapped : (start sum low : ℕ) → low ≡ carried_in sum → carried_in (start + low % 256 * 256 + low / 256) ≡ carried_in (start + 256 * sum)

@@ -1,12 +1,14 @@
 // Writers of a message's pieces. Each is lent the buffer and the place to write at, lends what is left from there on, and
-// answers the place after what it wrote.
-ghost use Rattle.std.specs.Prelude.{◌≡◌, true, ◌+◌, ◌≤◌, length};
-ghost use Rattle.octets.specs.Items.{option};
-ghost use Rattle.message.specs.Messages.{option_if, address_option, size_option, name_option};
-ghost use Rattle.message.specs.Pieces.{Wrote};
+// answers the place after what it wrote: document 01's form, "each option is written into what is left of the lent buffer".
+// They are no methods of a buffer and its place, as trace's Writer: the UDP header and the checksum are written at other places.
+// That an option's data has at most 255 octets stays a clause of each: a type for it would be made at four calls for three.
+#![tactic(auto, using(crate::proofs::Writers::none), unfolding(crate::specs::Messages::option_if))]
 
-use octets::MaybeNumber;
-use octets::codes::OPT_HOST_NAME;
+ghost use Rattle.std.specs.Prelude.{◌≡◌, ◌+◌, ◌≤◌, length, option_copied};
+ghost use Rattle.std.specs.Option.{ForSome};
+ghost use Rattle.octets.specs.Items.{option};
+ghost use Rattle.message.specs.Messages.{option_if};
+ghost use Rattle.message.specs.Pieces.{Wrote};
 
 // Octets as they are.
 pub(crate) fn put_bytes(buf: &mut [u8], at: usize, body: &[u8]) -> usize
@@ -25,51 +27,32 @@ pub(crate) fn put_option(buf: &mut [u8], at: usize, kind: u8, body: &[u8]) -> us
 }
 
 // An option, where it is given.
-pub(crate) fn put_if(buf: &mut [u8], at: usize, given: bool, kind: u8, body: &[u8]) -> usize
-    requires { ((given ≡ true → length body.now ≤ 255)) × (at + length (option_if given kind body.now) ≤ length buf.old) }
-    ensures { Wrote at (option_if given kind body.now) buf.old result buf.new }
+pub(crate) fn put_if(buf: &mut [u8], at: usize, kind: u8, body: Option<&[u8]>) -> usize
+    requires short { ForSome body (λ octets. length octets.now ≤ 255) }
+    requires room { at + length (option_if kind (option_copied body)) ≤ length buf.old }
+    ensures { Wrote at (option_if kind (option_copied body.entry)) buf.old result buf.new }
 {
-    if given {
-        return put_option(buf, at, kind, body);
-    }
-    at
-}
-
-// An option that holds an address, where there is one.
-pub(crate) fn put_address(buf: &mut [u8], at: usize, kind: u8, address: MaybeNumber) -> usize
-    requires { at + length (address_option kind address) ≤ length buf.old }
-    ensures { Wrote at (address_option kind address) buf.old result buf.new }
-{
-    match address {
-        MaybeNumber::Some(a) => {
-            let body = octets::word::split4(a);
-            put_option(buf, at, kind, &body)
-        }
-        MaybeNumber::None => at,
+    match body {
+        Some(octets) => put_option(buf, at, kind, octets),
+        None => at,
     }
 }
 
-// An option that holds 16 bits, where they are given.
-pub(crate) fn put_size(buf: &mut [u8], at: usize, kind: u8, size: MaybeNumber) -> usize
-    requires { at + length (size_option kind size) ≤ length buf.old }
-    ensures { Wrote at (size_option kind size) buf.old result buf.new }
+// An option that holds N octets, where it is given.
+pub(crate) fn put_field<const N: usize>(
+    buf: &mut [u8],
+    at: usize,
+    kind: u8,
+    body: Option<[u8; N]>,
+) -> usize
+    requires short { N ≤ 255 }
+    requires room { at + length (option_if kind body) ≤ length buf.old }
+    ensures { Wrote at (option_if kind body.entry) buf.old result buf.new }
 {
-    match size {
-        MaybeNumber::Some(n) => {
-            let body = octets::word::split2(n);
-            put_option(buf, at, kind, &body)
-        }
-        MaybeNumber::None => at,
-    }
-}
-
-// The host name, if there is one.
-pub(crate) fn put_name(buf: &mut [u8], at: usize, name: &[u8]) -> usize
-    requires { (length name.now ≤ 255) × (at + length (name_option name.now) ≤ length buf.old) }
-    ensures { Wrote at (name_option name.now) buf.old result buf.new }
-{
-    if name.len() == 0 {
-        return at;
-    }
-    put_option(buf, at, OPT_HOST_NAME, name)
+    let octets = body.as_ref().map(
+        |octets| -> &[u8]
+            ensures { result.now ≡ octets.now }
+        { octets.as_slice() },
+    );
+    put_if(buf, at, kind, octets)
 }

@@ -2,9 +2,10 @@
 use mathlib.Core.Path.{◌≡◌, refl, ◌∙◌}
 use mathlib.Core.Bool.{true, false}
 use mathlib.Core.List.{List, [], ◌∷◌, ◌++◌}
-use Prim.Native.Nat.{ℕ, zero, suc, ◌+◌, ◌-◌, ◌≤◌, ◌<◌}
+use Prim.Native.Nat.{ℕ, zero, suc, ◌≤◌, ◌<◌}
 use native.Mathlib.Omega.{arith}
 use lib.ListN.{length, drop, get_or, drop_of_length-le}
+use lib.Dec.{eqb}
 use borrow.Author.Tests.{le-leb, lt-leb}
 use Rattle.choice.specs.Choice.{when◌then◌else◌}
 use Rattle.octets.specs.Items.{option, option_bytes, whole_from, whole_items}
@@ -22,28 +23,25 @@ whole_cut zero xs h = absurd (omega arith)
 whole_cut (suc n) [] h = refl
 whole_cut (suc n) (x ∷ xs) h = whole_cut n xs (omega arith)
 
-pub items_end : (t : List ℕ) → length t ≤ 0 → whole_items t ≡ true
+-- fewer than two octets are no item
+pub items_end : (t : List ℕ) → length t < 2 → eqb (length t) 0 ≡ whole_items t
 unfolding whole_from
 items_end [] h = refl
-items_end (x ∷ t) h = absurd (omega arith)
+items_end (x ∷ []) h = refl
+items_end (x ∷ y ∷ t) h = absurd (omega arith)
 
-pub items_one : (t : List ℕ) → length t ≡ 1 → whole_items t ≡ false
+-- `rest` is what stands behind kind and length
+pub items_cut : (t rest : List ℕ) → 2 ≤ length t → rest ≡ drop 2 t → length rest < get_or t 1 0 → whole_items t ≡ false
 unfolding whole_from
-items_one [] h = absurd (omega arith)
-items_one (x ∷ []) h = refl
-items_one (x ∷ y ∷ t) h = absurd (omega arith)
+items_cut [] rest g e h = absurd (omega arith)
+items_cut (x ∷ []) rest g e h = absurd (omega arith)
+items_cut (x ∷ n ∷ t) rest g e h = whole_cut n t (rw e at h)
 
-pub items_cut : (t : List ℕ) → 2 ≤ length t → length t - 2 < get_or t 1 0 → whole_items t ≡ false
+pub items_more : (t rest : List ℕ) → 2 ≤ length t → rest ≡ drop 2 t → get_or t 1 0 ≤ length rest → whole_items t ≡ whole_items (drop (get_or t 1 0) rest)
 unfolding whole_from
-items_cut [] g h = absurd (omega arith)
-items_cut (x ∷ []) g h = absurd (omega arith)
-items_cut (x ∷ n ∷ t) g h = whole_cut n t (omega arith)
-
-pub items_more : (t : List ℕ) → 2 ≤ length t → get_or t 1 0 ≤ length t - 2 → whole_items t ≡ whole_items (drop (get_or t 1 0 + 2) t)
-unfolding whole_from
-items_more [] g h = absurd (omega arith)
-items_more (x ∷ []) g h = absurd (omega arith)
-items_more (x ∷ n ∷ t) g h = whole_skip n t (omega arith) ∙ let e : n + 2 ≡ suc (suc n) = omega arith in rw e
+items_more [] rest g e h = absurd (omega arith)
+items_more (x ∷ []) rest g e h = absurd (omega arith)
+items_more (x ∷ n ∷ t) rest g e h = rw e (whole_skip n t (rw e at h))
 
 -- an option as a writer has it, by the length of its data
 pub bytes_of : (kind : ℕ) (body : List ℕ) → length body ≤ 255 → option_bytes kind body ≡ option kind body

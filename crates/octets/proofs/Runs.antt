@@ -1,59 +1,31 @@
 -- Laws of runs of octets: parts of slices, equality, and one run written over the start of another. Assumes nothing.
-use mathlib.Core.Path.{◌≡◌, refl, sym, ap, ◌∙◌}
+use mathlib.Core.Path.{◌≡◌, refl, ap, ◌∙◌}
 use mathlib.Core.Bool.{Bool, true, false}
 use mathlib.Core.List.{List, [], ◌∷◌, ◌++◌, append_assoc, append-nil}
-use Prim.Native.Nat.{ℕ, zero, suc, ◌-◌, ◌≤◌, ◌<◌, min}
-use native.Mathlib.Nat.{le_of_suc-le-suc, not-suc-le-zero}
+use Prim.Native.Nat.{ℕ, suc, ◌+◌, ◌-◌, ◌≤◌, ◌<◌}
 use native.Mathlib.Omega.{arith}
-use native.Mathlib.Decide.{dec_le}
-use lib.ListN.{length, take, drop, get_or, set, length-append, length-drop, drop_of_length-le}
+use lib.ListN.{length, take, drop, set, length-append, length-drop, drop_of_length-le}
 use lib.Seq.{take_at, drop_at, drop-drop, take_all}
 use lib.Dec.{eqb}
-use borrow.Author.Tests.{eq-eqb, ne_eqb, le-leb, lt-leb}
+use lib.Pointwise.{pointwise}
+use borrow.Author.Tests.{le-leb, lt-leb}
 use borrow.Rule.Slice.PartMut.{put_mid}
 use Rattle.choice.specs.Choice.{when◌then◌else◌}
+use Rattle.octets.specs.Items.{option}
 use Rattle.octets.specs.Runs.{same_bytes, over, placed, placed_length}
+use Rattle.std.specs.Prelude.{nat_eq, ◌&&◌}
 
 -- what `&xs[a..]` is
 pub part_tail : (a : ℕ) (xs : List ℕ) → take (length xs - a) (drop a xs) ≡ drop a xs
 part_tail a xs = take_all (length xs - a) (drop a xs) (simp length-drop (omega arith))
 
--- what stands there when `&mut xs[a..]` is back
-pub put_tail : (a : ℕ) (xs ys : List ℕ) → put_mid a (length xs - a) xs ys ≡ take a xs ++ ys
-put_tail a xs ys = ap (λ (l : List ℕ). take a xs ++ l)
-    (ap (λ (l : List ℕ). ys ++ l) (drop_of_length-le (drop a xs) {i = length xs - a} (simp length-drop (omega arith))) ∙ append-nil ys)
-
--- equality by the first octets
-pub same_short : (x y : List ℕ) → 0 < length x → length y ≡ 0 → same_bytes x y ≡ false
-unfolding same_bytes
-same_short [] y h k = absurd (omega arith)
-same_short (a ∷ x) [] h k = refl
-same_short (a ∷ x) (b ∷ y) h k = absurd (omega arith)
-
-pub same_other : (x y : List ℕ) → 0 < length x → (length y ≡ 0 → ⊥) → (get_or x 0 0 ≡ get_or y 0 0 → ⊥) → same_bytes x y ≡ false
+-- equality is what `==` answers
+pub same_pointwise : (x y : List ℕ) → pointwise nat_eq x y ≡ same_bytes x y
 unfolding same_bytes when◌then◌else◌
-same_other [] y h k e = absurd (omega arith)
-same_other (a ∷ x) [] h k e = absurd (omega arith)
-same_other (a ∷ x) (b ∷ y) h k e = simp (ne_eqb a b e)
-
-pub same_more : (x y : List ℕ) → 0 < length x → (length y ≡ 0 → ⊥) → get_or x 0 0 ≡ get_or y 0 0 → same_bytes x y ≡ same_bytes (drop 1 x) (drop 1 y)
-unfolding same_bytes when◌then◌else◌
-same_more [] y h k e = absurd (omega arith)
-same_more (a ∷ x) [] h k e = absurd (omega arith)
-same_more (a ∷ x) (b ∷ y) h k e = simp (eq-eqb a b e)
-
-pub same_end : (x y : List ℕ) → length x ≤ 0 → same_bytes x y ≡ eqb (length y) 0
-unfolding same_bytes
-same_end [] [] h = refl
-same_end [] (b ∷ y) h = sym (ne_eqb (length (b ∷ y)) 0 (λ e. omega arith))
-same_end (a ∷ x) y h = absurd (omega arith)
-
--- a turn of a copy: one octet more
-pub store : (src dst : List ℕ) (i : ℕ) → i < length src → i < length dst → set (take i src ++ drop i dst) i (get_or src i 0) ≡ take (suc i) src ++ drop (suc i) dst
-store [] dst i h k = absurd (not-suc-le-zero h)
-store (x ∷ xs) [] i h k = absurd (not-suc-le-zero k)
-store (x ∷ xs) (y ∷ ys) zero h k = refl
-store (x ∷ xs) (y ∷ ys) (suc i) h k = ap (λ (l : List ℕ). x ∷ l) (store xs ys i (le_of_suc-le-suc h) (le_of_suc-le-suc k))
+same_pointwise [] [] = refl
+same_pointwise [] (b ∷ y) = refl
+same_pointwise (a ∷ x) [] = refl
+same_pointwise (a ∷ x) (b ∷ y) = elim (nat_eq a b) as (λ t. (t && pointwise nat_eq x y) ≡ (when t then same_bytes x y else false)) [ true ↦ same_pointwise x y | false ↦ refl ]
 
 -- writing over the start keeps the length
 pub over_length : (out buf : List ℕ) → length out ≤ length buf → length (over out buf) ≡ length buf
@@ -77,20 +49,13 @@ seam a b buf = simp (length-append, drop-drop, append_assoc)
 pub over_then : (a b buf : List ℕ) → take (length a) (over a buf) ++ over b (drop (length a) (over a buf)) ≡ over (a ++ b) buf
 over_then a b buf = rw (over_front a buf, over_rest a buf) (seam a b buf)
 
--- one more writer: xs has `before` over the start of buf, and a writer that was lent the rest from a on wrote `out` there
-pub next : (before out buf xs ys : List ℕ) (a : ℕ) → a ≡ length before → xs ≡ over before buf → ys ≡ over out (take (length xs - a) (drop a xs))
-    → put_mid a (length xs - a) xs ys ≡ over (before ++ out) buf
-next before out buf xs ys a ea ex ey = put_tail a xs ys ∙ ap (λ (l : List ℕ). take a xs ++ l) (ey ∙ ap (over out) (part_tail a xs)) ∙ whole
-  where
-    whole : take a xs ++ over out (drop a xs) ≡ over (before ++ out) buf
-    whole = rw (ex, ea) (over_then before out buf)
-
--- two octets at the start
-pub two_set : (k n : ℕ) (buf : List ℕ) → 2 ≤ length buf → set (set buf 0 k) 1 n ≡ over (k ∷ n ∷ []) buf
+-- kind and length at the start, and the data behind them
+pub option_put : (kind n : ℕ) (body buf ys : List ℕ) → 2 + length body ≤ length buf → n ≡ length body → ys ≡ body
+    → put_mid 2 n (set (set buf 0 kind) 1 (length body)) ys ≡ over (option kind body) buf
 unfolding over
-two_set k n [] h = absurd (not-suc-le-zero h)
-two_set k n (x ∷ []) h = absurd (not-suc-le-zero (le_of_suc-le-suc h))
-two_set k n (x ∷ y ∷ r) h = refl
+option_put kind n body [] ys h e f = absurd (omega arith)
+option_put kind n body (x ∷ []) ys h e f = absurd (omega arith)
+option_put kind n body (x ∷ y ∷ r) ys h e f = rw (e, f)
 
 -- whole, where there is room; else not at all
 pub placed_whole : (out buf : List ℕ) → length out ≤ length buf → (placed_length out buf ≡ length out) × (placed out buf ≡ over out buf)
@@ -110,19 +75,13 @@ placed_nil : (out : List ℕ) → (placed_length out [] ≡ 0) × (placed out []
 placed_nil [] = placed_none []
 placed_nil (x ∷ out) = placed_not (x ∷ out) [] (omega arith)
 
-pub placed_past : (out xs : List ℕ) (at : ℕ) → length xs < at → (placed_length out (drop at xs) ≡ 0) × (take at xs ++ placed out (drop at xs) ≡ xs)
-placed_past out xs at h =
-    let h' : length xs ≤ at = omega arith in
-    rw (drop_of_length-le xs h')
-    ((placed_nil out).0, ap (λ (l : List ℕ). take at xs ++ l) (placed_nil out).1 ∙ append-nil (take at xs) ∙ take_all at xs h')
+pub past_length : (out xs : List ℕ) (at : ℕ) → length xs < at → placed_length out (drop at xs) ≡ 0
+past_length out xs at h = let h' : length xs ≤ at = omega arith in rw (drop_of_length-le xs h') (placed_nil out).0
 
--- a writer that was lent the rest from `at` on
-pub placed_lent : (out xs ys : List ℕ) (at r : ℕ) → r ≡ placed_length out (take (length xs - at) (drop at xs)) → ys ≡ placed out (take (length xs - at) (drop at xs))
-    → (r ≡ placed_length out (drop at xs)) × (put_mid at (length xs - at) xs ys ≡ take at xs ++ placed out (drop at xs))
-placed_lent out xs ys at r er ey = (
-  er ∙ ap (placed_length out) (part_tail at xs),
-  put_tail at xs ys ∙ ap (λ (l : List ℕ). take at xs ++ l) (ey ∙ ap (placed out) (part_tail at xs)),
-)
+pub past_same : (out xs : List ℕ) (at : ℕ) → length xs < at → take at xs ++ placed out (drop at xs) ≡ xs
+past_same out xs at h =
+    let h' : length xs ≤ at = omega arith in
+    rw (drop_of_length-le xs h') (ap (λ (l : List ℕ). take at xs ++ l) (placed_nil out).1 ∙ append-nil (take at xs) ∙ take_all at xs h')
 
 -- lists of other lengths differ
 else_false : (t : Bool) {r : Bool} → r ≡ false → (when t then r else false) ≡ false
@@ -136,10 +95,3 @@ same_lengths [] [] h = absurd (h refl)
 same_lengths [] (b ∷ y) h = refl
 same_lengths (a ∷ x) [] h = refl
 same_lengths (a ∷ x) (b ∷ y) h = else_false (eqb a b) (same_lengths x y (λ e. h (ap suc e)))
-
--- no more is in use than there is
-pub take_most : {A : Type 0} (xs : List A) (n size : ℕ) → length xs ≡ size → take (min n size) xs ≡ take n xs
-take_most xs n size e = elim (dec_le n size) [
-  | yes h ↦ let m : min n size ≡ n = omega arith in rw m
-  | no h ↦ take_all (min n size) xs (omega arith) ∙ sym (take_all n xs (omega arith))
-]

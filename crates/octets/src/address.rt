@@ -1,8 +1,12 @@
 // IPv4 addresses, as numbers of 32 bits.
+#![tactic(auto, using(choice::proofs::Choices::if_true, choice::proofs::Choices::if_false, crate::proofs::Masks::prefix_bits), unfolding(crate::specs::Addresses::unicast))]
+
 ghost use Rattle.std.specs.Prelude.{◌≡◌};
 ghost use Rattle.octets.specs.Addresses.{unicast, prefix_len};
 
-use crate::number::MaybeNumber;
+pub const UNSPECIFIED: u32 = 0;
+
+pub const BROADCAST: u32 = 0xffffffff;
 
 // 224.0.0.0 and 240.0.0.0: multicast addresses lie from the first to below the second.
 const MULTICAST: u32 = 0xe0000000;
@@ -13,34 +17,13 @@ const PAST_MULTICAST: u32 = 0xf0000000;
 pub fn x_is_unicast(address: u32) -> bool
     ensures { result ≡ unicast address }
 {
-    if address == 0 {
-        return false;
-    }
-    if address == 0xffffffff {
-        return false;
-    }
-    if address < MULTICAST {
-        return true;
-    }
-    PAST_MULTICAST <= address
+    !matches!(address, UNSPECIFIED | MULTICAST..PAST_MULTICAST | BROADCAST)
 }
 
-// The number of ones that a mask begins with, none where a one follows a zero. p is 2 to the 32 - n.
-pub fn prefix_len(mask: u32) -> MaybeNumber
+// The number of ones that a mask begins with, none where a one follows a zero.
+pub fn prefix_len(mask: u32) -> Option<u32>
     ensures { result ≡ prefix_len mask }
 {
-    let m = mask as u64;
-    let mut n: u32 = 32;
-    let mut p: u64 = 1;
-    while 0 < n {
-        if m + p == 4294967296 {
-            return MaybeNumber::Some(n);
-        }
-        n = n - 1;
-        p = p * 2;
-    }
-    if m == 0 {
-        return MaybeNumber::Some(0);
-    }
-    MaybeNumber::None
+    let n = mask.leading_ones();
+    (n + mask.trailing_zeros() == 32).then_some(n)
 }

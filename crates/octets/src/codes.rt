@@ -1,5 +1,6 @@
 // Codes of the options that are written and read here, and values of option 53, the message type (RFC 2132), by their
 // names in wire/dhcpv4.rs. Their definitions: specs/Codes.antt.
+// Octets, and no enum: a reply may hold any octet in their place, and who builds a message may give it any type.
 
 // One octet of padding.
 pub const OPT_PAD: u8 = 0;

@@ -1,4 +1,6 @@
 // Options as they are stored and handed over: one after another, each as its kind, the length of its data, its data.
+#![tactic(auto, using(crate::proofs::Runs::part_tail, crate::proofs::Items::items_end, crate::proofs::Items::items_cut, crate::proofs::Items::items_more))]
+
 ghost use Rattle.std.specs.Prelude.{◌≡◌};
 ghost use Rattle.octets.specs.Items.{whole_items};
 
@@ -9,17 +11,13 @@ pub const MAGIC_NUMBER: [u8; 4] = [99, 130, 83, 99];
 pub fn whole_items(s: &[u8]) -> bool
     ensures { result ≡ whole_items s.now }
 {
-    let mut t = s;
-    while 0 < t.len() {
-        if t.len() == 1 {
+    let mut left = s;
+    while let [_, n, rest @ ..] = left {
+        let n = usize::from(*n);
+        if rest.len() < n {
             return false;
         }
-        let n = t[1] as usize;
-        if t.len() - 2 < n {
-            return false;
-        }
-        let m = n + 2;
-        t = &t[m..];
+        left = &rest[n..];
     }
-    true
+    left.is_empty()
 }

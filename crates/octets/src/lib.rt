@@ -9,8 +9,5 @@
 pub mod address;
 pub mod codes;
 pub mod item;
-pub mod number;
 pub mod span;
 pub mod word;
-
-pub use number::MaybeNumber;

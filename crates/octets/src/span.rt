@@ -1,47 +1,23 @@
-// Runs of octets: whether two are equal, and writing one over the start of a lent buffer, whole or not at all.
+// Runs of octets: whether two are equal, and writing one over the start of a lent buffer, whole or not at all. A writer
+// answers 0, and not none, where a run does not fit: writers in a row add their answers up, and need no second case.
+#![tactic(auto, using(choice::proofs::Choices::if_true, choice::proofs::Choices::if_false, crate::proofs::Runs::same_pointwise, crate::proofs::Runs::part_tail, crate::proofs::Runs::past_length, crate::proofs::Runs::past_same, crate::proofs::Runs::option_put), unfolding(crate::specs::Runs::over, crate::specs::Runs::placed, crate::specs::Runs::placed_length, crate::specs::Items::option_bytes))]
+
 ghost use Rattle.std.specs.Prelude.{◌≡◌, ◌+◌, ◌≤◌, ◌++◌, length, take, drop};
 ghost use Rattle.octets.specs.Runs.{same_bytes, over, placed, placed_length};
 ghost use Rattle.octets.specs.Items.{option, option_bytes};
 
-// Whether a and b hold the same octets.
+// Whether a and b hold the same octets: `==`, with the definition that contracts of other crates use.
 pub fn same(a: &[u8], b: &[u8]) -> bool
     ensures { result ≡ same_bytes a.now b.now }
 {
-    let mut x = a;
-    let mut y = b;
-    while 0 < x.len() {
-        if y.len() == 0 {
-            return false;
-        }
-        if x[0] != y[0] {
-            return false;
-        }
-        x = &x[1..];
-        y = &y[1..];
-    }
-    y.len() == 0
+    a == b
 }
 
 // The first n octets of s, all of them where there are no more.
 pub fn up_to(s: &[u8], n: usize) -> &[u8]
     ensures { result.now ≡ take n s.now }
 {
-    if s.len() < n {
-        return s;
-    }
-    &s[..n]
-}
-
-// Copies body to the start of buf.
-fn copy_in(buf: &mut [u8], body: &[u8])
-    requires { length body.now ≤ length buf.old }
-    ensures { buf.new ≡ over body.now buf.old }
-{
-    let mut i = 0;
-    while i < body.len() {
-        buf[i] = body[i];
-        i += 1;
-    }
+    &s[..n.min(s.len())]
 }
 
 // Writes body over the start of buf, if it fits, and answers how many octets were written.
@@ -52,7 +28,7 @@ pub fn put_bytes(buf: &mut [u8], body: &[u8]) -> usize
     if buf.len() < n {
         return 0;
     }
-    copy_in(buf, body);
+    buf[..n].copy_from_slice(body);
     n
 }
 
@@ -63,7 +39,7 @@ fn option_in(buf: &mut [u8], kind: u8, body: &[u8])
 {
     buf[0] = kind;
     buf[1] = body.len() as u8;
-    copy_in(&mut buf[2..], body);
+    buf[2..body.len() + 2].copy_from_slice(body);
 }
 
 // Writes an option over the start of buf, if its data has at most 255 octets and it fits, and answers how many octets
@@ -72,17 +48,15 @@ pub fn put_option(buf: &mut [u8], kind: u8, body: &[u8]) -> usize
     ensures { (result ≡ placed_length (option_bytes kind body.now) buf.old) × (buf.new ≡ placed (option_bytes kind body.now) buf.old) }
 {
     let n = body.len();
-    if 255 < n {
-        return 0;
-    }
-    if buf.len() < n + 2 {
+    if 255 < n || buf.len() < n + 2 {
         return 0;
     }
     option_in(buf, kind, body);
     n + 2
 }
 
-// Writes body over what is left of buf from `at` on, if it fits there, and answers how many octets were written.
+// Writes body over what is left of buf from `at` on, if it fits there, and answers how many octets were written. This and
+// put_option_at stay two: one that took the writer as a closure would need a contract for it, longer than the test of `at`.
 pub fn put_bytes_at(buf: &mut [u8], at: usize, body: &[u8]) -> usize
     ensures { (result ≡ placed_length body.now (drop at buf.old)) × (buf.new ≡ take at buf.old ++ placed body.now (drop at buf.old)) }
 {

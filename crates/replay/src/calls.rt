@@ -1,170 +1,177 @@
-// The calls on the post of a sheet, which is written on it anew; each answers where its lines end in `out`.
-use crate::look::{mask, option};
+// The calls on a post; each answers on a sheet.
 use client::Client;
+use clock::{Instant, Rand};
+use octets::address::{prefix_len, x_is_unicast};
 use octets::span::up_to;
-use sheet::forms::{
-    ADD_ADDRESS, ADD_ROUTE, DROP_ADDRESS, GET, MASK, NEW, OPTION, POLL, PROCESS, RESET, octets_at,
-};
 use sheet::lent::lend;
-use sheet::write;
+use sheet::{Answer, Call, Form, Malformed, Record, Sheet, Value};
 use tables::{Changed, Tables};
-use told::answer;
-use told::answer::put_sent;
-use told::made::{client_of, moment_after, rand_of, tables_of};
-use told::told::{put_answer, put_generator};
+use told::Post;
+use wire::reply::{option_len, option_octet};
 
-// Makes a call; `lent` is room for a buffer or a reply.
-pub fn call(
-    sheet: &mut [u8],
-    lent: &mut [u8],
-    out: &mut [u8],
-    at: usize,
-    line: &[u8],
-    form: usize,
-    v: [u32; 16],
-) -> usize {
-    if form == POLL {
-        return poll(sheet, lent, out, at, v);
-    }
-    if form == NEW {
-        create(sheet);
-        return write::created(out, at, sheet);
-    }
-    if form < MASK {
-        other(sheet, lent, line, form, v);
-        return write::answer(out, at, sheet);
-    }
-    if form == OPTION {
-        return option(sheet, lent, out, at, line, v);
-    }
-    mask(sheet, out, at, v[0])
+// A post, room for a buffer that is lent or a reply, and the sheet for answers.
+#[derive(Drop)]
+pub struct Replay<'a> {
+    post: Post,
+    lent: &'a mut [u8],
+    pub sheet: Sheet<'a>,
+    // How many lines were read.
+    pub lines: u64,
 }
 
-// Polls with a buffer as the record lends it.
-fn poll(sheet: &mut [u8], lent: &mut [u8], out: &mut [u8], at: usize, v: [u32; 16]) -> usize {
-    let n = v[1] as usize;
-    if lent.len() < n {
-        return at;
+impl<'a> Replay<'a> {
+    pub fn new(lent: &'a mut [u8], room: &'a mut [u8]) -> Replay<'a> {
+        let post = Post::new(Instant { millis: 0 }, Rand { state: 0 });
+        let sheet = Sheet::new(room);
+        Replay {
+            post,
+            lent,
+            sheet,
+            lines: 0,
+        }
     }
-    poll_with(sheet, &mut lent[..n], out, at, v)
-}
 
-fn poll_with(sheet: &mut [u8], lent: &mut [u8], out: &mut [u8], at: usize, v: [u32; 16]) -> usize {
-    lend(lent, v[2]);
-    poll_in(sheet, v[0], lent);
-    write::polled(out, at, sheet, lent, v[2])
-}
-
-fn poll_in(sheet: &mut [u8], step: u32, lent: &mut [u8]) {
-    let moment = moment_after(sheet, step);
-    let client = client_of(sheet);
-    let polled = client.poll(tables_of(sheet), rand_of(sheet), moment, lent);
-    let outcome = polled.outcome;
-    put_answer(
-        sheet,
-        polled.client,
-        polled.tables,
-        moment,
-        answer::polled(outcome),
-    );
-    put_generator(sheet, polled.rand);
-    put_sent(sheet, outcome);
-}
-
-fn other(sheet: &mut [u8], lent: &mut [u8], line: &[u8], form: usize, v: [u32; 16]) {
-    if form == PROCESS {
-        return process(sheet, lent, line, v);
+    // A line: it is passed over, sets the post, or is a call and answered.
+    pub fn line(&mut self, line: &[u8]) -> Result<(), Malformed> {
+        self.lines = self.lines.saturating_add(1);
+        let Some(record) = Record::read(line)? else {
+            return Ok(());
+        };
+        match record.form {
+            Form::Call(call) => {
+                self.call(call, &record);
+                Ok(())
+            }
+            Form::Part(part) => self.post.set(part, &record),
+            Form::Answer(_) => Err(Malformed::Unknown),
+        }
     }
-    if form == RESET {
-        return reset(sheet, v[0]);
+
+    fn call(&mut self, call: Call, record: &Record<'_>) {
+        let [step, address, prefix, router, ..] = record.values;
+        match call {
+            Call::Poll => self.poll(record),
+            Call::Process => self.process(record),
+            Call::New => self.create(),
+            Call::Reset => self.reset(record),
+            Call::Get => self.get(record),
+            Call::AddAddress => self.change(step, |tables| {
+                tables.add_address(address.to(), prefix.to())
+            }),
+            Call::DropAddress => self.change(step, |tables| {
+                tables.drop_address(address.to(), prefix.to())
+            }),
+            Call::AddRoute => self.change(step, |tables| {
+                tables.add_route(address.to(), prefix.to(), router.to())
+            }),
+            Call::DropRoute => self.change(step, |tables| {
+                tables.drop_route(address.to(), prefix.to(), router.to())
+            }),
+            Call::Mask => self.mask(record),
+            Call::Option => self.option(record),
+        }
     }
-    if form == GET {
-        return get(sheet, v[0], (v[1] % 256) as u8);
+
+    // A creation has no step. A client that is refused is all zero.
+    fn create(&mut self) {
+        let Post { client, tables, .. } = self.post;
+        let created = Client::new(client.settings, client.ignore_naks);
+        self.post.leave(created.unwrap_or(Client::zero()), tables);
+        self.post.answer_new(created.map(|_| ()), &mut self.sheet);
     }
-    change(sheet, form, v)
-}
 
-// A creation has no step.
-fn create(sheet: &mut [u8]) {
-    let moment = moment_after(sheet, 0);
-    let held = client_of(sheet);
-    let tables = tables_of(sheet);
-    let created = Client::new(held.settings, held.ignore_naks);
-    let outcome = created.outcome;
-    put_answer(
-        sheet,
-        created.client,
-        tables,
-        moment,
-        answer::created(outcome),
-    );
-}
-
-fn process(sheet: &mut [u8], lent: &mut [u8], line: &[u8], v: [u32; 16]) {
-    let n = octets_at(line, v[2], v[3], lent);
-    process_reply(sheet, v[0], v[1], up_to(lent, n));
-}
-
-fn process_reply(sheet: &mut [u8], step: u32, source: u32, reply: &[u8]) {
-    let moment = moment_after(sheet, step);
-    let client = client_of(sheet);
-    let processed = client.process(tables_of(sheet), source, reply, moment);
-    let outcome = processed.outcome;
-    put_answer(
-        sheet,
-        processed.client,
-        processed.tables,
-        moment,
-        answer::processed(outcome),
-    );
-}
-
-fn reset(sheet: &mut [u8], step: u32) {
-    let moment = moment_after(sheet, step);
-    let client = client_of(sheet);
-    let was = client.reset(tables_of(sheet));
-    let outcome = was.outcome;
-    put_answer(
-        sheet,
-        was.client,
-        was.tables,
-        moment,
-        answer::was_reset(outcome),
-    );
-}
-
-fn change(sheet: &mut [u8], form: usize, v: [u32; 16]) {
-    let moment = moment_after(sheet, v[0]);
-    let client = client_of(sheet);
-    let changed = changed_by(tables_of(sheet), form, v);
-    let outcome = changed.outcome;
-    put_answer(
-        sheet,
-        client,
-        changed.tables,
-        moment,
-        answer::changed(outcome),
-    );
-}
-
-fn changed_by(tables: Tables, form: usize, v: [u32; 16]) -> Changed {
-    let prefix = (v[2] % 256) as u8;
-    if form == ADD_ADDRESS {
-        return tables.add_address(v[1], prefix);
+    // Polls with a buffer as the record lends it.
+    fn poll(&mut self, record: &Record<'_>) {
+        let [step, length, fill, ..] = record.values;
+        let n = self.lent.len().min(length.to());
+        let buf = &mut self.lent[..n];
+        lend(buf, fill.to());
+        self.post.pass(step);
+        let post = self.post;
+        let polled = post.client.poll(post.tables, post.rand, post.now, buf);
+        self.post.leave(polled.client, polled.tables);
+        self.post.rand = polled.rand;
+        self.post
+            .answer_poll(polled.outcome, buf, fill.to(), &mut self.sheet);
     }
-    if form == DROP_ADDRESS {
-        return tables.drop_address(v[1], prefix);
-    }
-    if form == ADD_ROUTE {
-        return tables.add_route(v[1], prefix, v[3]);
-    }
-    tables.drop_route(v[1], prefix, v[3])
-}
 
-// A record looks at the lease's store alone.
-fn get(sheet: &mut [u8], step: u32, kind: u8) {
-    let moment = moment_after(sheet, step);
-    let client = client_of(sheet);
-    let tables = tables_of(sheet);
-    put_answer(sheet, client, tables, moment, answer::got(client, kind));
+    fn process(&mut self, record: &Record<'_>) {
+        let [step, source, reply_at, reply_len, ..] = record.values;
+        let n = record.octets(reply_at, reply_len).copy_to(self.lent);
+        self.post.pass(step);
+        let post = self.post;
+        let reply = up_to(self.lent, n);
+        let processed = post
+            .client
+            .process(post.tables, source.to(), reply, post.now);
+        self.post.leave(processed.client, processed.tables);
+        self.post.answer_process(processed.outcome, &mut self.sheet);
+    }
+
+    fn reset(&mut self, record: &Record<'_>) {
+        let [step, ..] = record.values;
+        self.post.pass(step);
+        let post = self.post;
+        let was = post.client.reset(post.tables);
+        self.post.leave(was.client, was.tables);
+        self.post.answer_reset(was.outcome, &mut self.sheet);
+    }
+
+    // A manual change of the tables.
+    fn change<F: FnOnce(Tables) -> Changed>(&mut self, step: Value, change: F)
+        requires { F.IsAlwaysCallable change }
+    {
+        self.post.pass(step);
+        let changed = change(self.post.tables);
+        let client = self.post.client;
+        self.post.leave(client, changed.tables);
+        self.post.answer_change(changed.outcome, &mut self.sheet);
+    }
+
+    // Looks at the lease's store alone.
+    fn get(&mut self, record: &Record<'_>) {
+        let [step, kind, ..] = record.values;
+        self.post.pass(step);
+        let post = self.post;
+        let outcome = if post.client.session.state.has_lease() {
+            post.client.lease.options.get(kind.to())
+        } else {
+            Ok(None)
+        };
+        self.post.leave(post.client, post.tables);
+        self.post.answer_get(outcome, &mut self.sheet);
+    }
+
+    // Looks at its argument alone, as the next does.
+    fn mask(&mut self, record: &Record<'_>) {
+        let [address, ..] = record.values;
+        let prefix = prefix_len(address.to());
+        self.sheet.write(
+            Answer::Masked,
+            &[
+                x_is_unicast(address.to()).into(),
+                prefix.is_some().into(),
+                prefix.unwrap_or(0).into(),
+            ],
+        );
+    }
+
+    fn option(&mut self, record: &Record<'_>) {
+        let [kind, reply_at, reply_len, ..] = record.values;
+        let n = record.octets(reply_at, reply_len).copy_to(self.lent);
+        let reply = up_to(self.lent, n);
+        let kind = kind.to();
+        let found = option_len(reply, kind);
+        let len = found.unwrap_or(0);
+        let mut data = [0; 255];
+        // Octet by octet: what is compared is option_octet, by which a device reads.
+        for (i, octet) in data.iter_mut().enumerate().take(len) {
+            *octet = option_octet(reply, kind, i).unwrap_or(0);
+        }
+        self.sheet.write_octets(
+            Answer::Optioned,
+            &[found.is_some().into(), 0, len as u64],
+            &data,
+        );
+    }
 }

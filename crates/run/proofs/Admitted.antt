@@ -1,5 +1,6 @@
 -- What demand 3 does not exclude: garbage in a message. Whatever the calls, if they meet the claim, so do they with the buffer
 -- wiped wherever a message is built. What stands in the buffer is the poll's contract. Assumes nothing.
+use Rattle.std.proofs.Common.{Some, Result, Ok, Err}
 use Prim.Native.Nat.{ℕ, ◌+◌, ◌<◌}
 use mathlib.Core.Path.{◌≡◌, refl, sym, ap, ◌∙◌, subst, subst⁻¹}
 use mathlib.Core.List.{List, [], ◌∷◌}
@@ -9,21 +10,19 @@ use Rattle.choice.specs.Choice.{when◌then◌else◌}
 use Rattle.choice.proofs.Choices.{if_true}
 use Rattle.clock.specs.declared.instant.Instant.{Instant}
 use Rattle.clock.specs.declared.rand.Rand.{Rand}
-use Rattle.octets.specs.declared.number.MaybeNumber.TheVariants.{Some}
 use Rattle.tables.specs.declared.tables.Tables.{Tables}
 use Rattle.settings.specs.declared.settings.Settings.{Settings}
 use Rattle.client.specs.Polls.{PolledInto}
 use Rattle.client.specs.declared.client.Client.{Client}
 use Rattle.client.specs.declared.poll.PollAnswer.{PollAnswer}
-use Rattle.client.specs.declared.poll.PollOutcome.{PollOutcome}
-use Rattle.client.specs.declared.poll.PollOutcome.TheVariants.{Answered, Refused}
 use Rattle.run.specs.Calls.{Post, Calls, Deed, Reply, Reset, ByHand, Call, Poll, Do, LookUp}
 use Rattle.run.specs.Demand3.{Entry, Event, moment_after, Done, CameTo, Polls, Does, Answers, IfPolls, IfDoes, leaves, tells, done, comes, came_to, stepped, told, older, noted_all, lost_all, Run, start, next, Throughout, Since, never, later, counted, is_polled, in_time, Timely, Tabled, after, total, OnlyPolls, NoneAt, Quiet, Enough, Builds, Owed, Wakes, AfterPoll, After, TooShort, Justly, Open, Demand3}
+use Rattle.reasons.specs.declared.refusal.Refusal.{Refusal}
 
 -- The buffer, empty where a message was built into it.
-unfoldable pub wiped : PollOutcome → List ℕ → List ℕ
-wiped (Answered answer) buffer = when eqb answer.length 0 then buffer else []
-wiped (Refused number) buffer = buffer
+unfoldable pub wiped : Result PollAnswer Refusal → List ℕ → List ℕ
+wiped (Ok answer) buffer = when eqb answer.length 0 then buffer else []
+wiped (Err number) buffer = buffer
 
 abbrev garbled : PolledInto → PolledInto
 garbled r = record { polled = r.polled; buffer = wiped r.polled.outcome r.buffer }
@@ -80,7 +79,7 @@ deeds_back (Polls b left) h = tt
 deeds_back (Does d left) h = h
 deeds_back Answers h = tt
 
-wiped_none : (a : PollAnswer) (b : List ℕ) → a.length ≡ 0 → wiped (Answered a) b ≡ b
+wiped_none : (a : PollAnswer) (b : List ℕ) → a.length ≡ 0 → wiped (Ok a) b ≡ b
 unfolding wiped
 wiped_none a b e = sym (if_true _ (eq-eqb a.length 0 e) refl)
 
@@ -92,7 +91,7 @@ quiet_too p b left q = record {
   client = q.client;
   tables = q.tables;
   rand = q.rand;
-  buffer = ap (λ (o : PollOutcome). wiped o left.buffer) q.answered ∙ wiped_none q.answer left.buffer q.length ∙ q.buffer;
+  buffer = ap (λ (o : Result PollAnswer Refusal). wiped o left.buffer) q.answered ∙ wiped_none q.answer left.buffer q.length ∙ q.buffer;
 }
 
 builds_too : (n : ℕ) (b : List ℕ) (left : PolledInto) → Builds n b left → Builds n b (garbled left)
@@ -177,7 +176,7 @@ module _ (k : Calls) (s : Settings) where
   after_poll_too r a v = record { lease = v.lease; wakes = wakes_too r.post _ v.wakes }
 
   abbrev WellPolled : Calls → Run → List ℕ → PolledInto → Type 0
-  WellPolled c r b left = (a : PollAnswer) → left.polled.outcome ≡ Answered a → AfterPoll c s r a
+  WellPolled c r b left = (a : PollAnswer) → left.polled.outcome ≡ Ok a → AfterPoll c s r a
 
   after_too : (r : Run) (e : Entry) → After k s r e → After (garbling k) s r e
   after_too r e v = record {
@@ -188,7 +187,7 @@ module _ (k : Calls) (s : Settings) where
         (polls_too (WellPolled k (next k s r e)) (WellPolled (garbling k) (next k s r e)) (λ b left f a answered. after_poll_too (next k s r e) a (f a answered)) (came_to k s r.post e) v.polls));
   }
 
-  short_too : (p : Post) (now : Instant) (b : List ℕ) (n : ℕ) → TooShort k s p now b n → TooShort (garbling k) s p now b n
+  short_too : (p : Post) (now : Instant) (b : List ℕ) (n : Refusal) → TooShort k s p now b n → TooShort (garbling k) s p now b n
   short_too p now b n v = record {
     by_8 = v.by_8;
     lent = v.lent;
@@ -198,16 +197,16 @@ module _ (k : Calls) (s : Settings) where
     longer = λ other l. builds_too v.n other (k.poll p.client p.tables p.rand now other) (v.longer other l);
   }
 
-  just_too : (p : Post) (now : Instant) (d : Deed) (n : ℕ) → Justly k s p now d n → Justly (garbling k) s p now d n
+  just_too : (p : Post) (now : Instant) (d : Deed) (n : Refusal) → Justly k s p now d n → Justly (garbling k) s p now d n
   just_too p now (Reply source bytes) n j = j
   just_too p now Reset n j = j
   just_too p now (ByHand m) n j = j
 
   abbrev ShortOnly : Calls → Post → Instant → List ℕ → PolledInto → Type 0
-  ShortOnly c p now b left = (n : ℕ) → left.polled.outcome ≡ Refused n → TooShort c s p now b n
+  ShortOnly c p now b left = (n : Refusal) → left.polled.outcome ≡ Err n → TooShort c s p now b n
 
   abbrev JustOnly : Calls → Post → Instant → Deed → Done → Type 0
-  JustOnly c p now d left = (n : ℕ) → left.refused ≡ Some n → Justly c s p now d n
+  JustOnly c p now d left = (n : Refusal) → left.refused ≡ Some n → Justly c s p now d n
 
   open_too : (r : Run) (e : Entry) → Open k s r e → Open (garbling k) s r e
   open_too r e v =
@@ -240,9 +239,9 @@ module _ (k : Calls) (s : Settings) where
 
 pub garbling_admitted : (k : Calls) → Demand3 k → Demand3 (garbling k)
 garbling_admitted k d = record {
-  owed = λ s ignoring done t a r rand m es timely.
-      throughout_too k s (After k s) (After (garbling k) s) (after_too k s) (start (k.create s ignoring).client t rand m) es
-      (d.owed s ignoring done t a r rand m es (timely_back k s never (start (k.create s ignoring).client t rand m) es timely));
-  no_lockout = λ s ignoring done t h rand m es.
-      throughout_too k s (Open k s) (Open (garbling k) s) (open_too k s) (start (k.create s ignoring).client t rand m) es (d.no_lockout s ignoring done t h rand m es);
+  owed = λ s ignoring c made t a r rand m es timely.
+      throughout_too k s (After k s) (After (garbling k) s) (after_too k s) (start c t rand m) es
+      (d.owed s ignoring c made t a r rand m es (timely_back k s never (start c t rand m) es timely));
+  no_lockout = λ s ignoring c made t h rand m es.
+      throughout_too k s (Open k s) (Open (garbling k) s) (open_too k s) (start c t rand m) es (d.no_lockout s ignoring c made t h rand m es);
 }

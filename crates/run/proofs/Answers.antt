@@ -1,17 +1,14 @@
 -- What a poll's outcome tells, by itself. Assumes nothing.
+use Rattle.std.proofs.Common.{Result, Ok, Err}
 use Prim.Native.Nat.{ℕ}
 use mathlib.Core.Bool.{Bool, true, false}
-use Rattle.client.specs.declared.poll.PollOutcome.{PollOutcome}
-use Rattle.client.specs.declared.poll.PollOutcome.TheVariants.{Answered, Refused}
+use Rattle.client.specs.declared.poll.PollAnswer.{PollAnswer}
+use Rattle.reasons.specs.declared.refusal.Refusal.{Refusal}
 
-abbrev pub is_answered : PollOutcome → Bool
-is_answered (Answered answer) = true
-is_answered (Refused number) = false
+abbrev pub is_answered : Result PollAnswer Refusal → Bool
+is_answered (Ok answer) = true
+is_answered (Err number) = false
 
-abbrev pub length_of : PollOutcome → ℕ
-length_of (Answered answer) = answer.length
-length_of (Refused number) = 0
-
-abbrev pub number_of : PollOutcome → ℕ
-number_of (Answered answer) = 0
-number_of (Refused number) = number
+abbrev pub length_of : Result PollAnswer Refusal → ℕ
+length_of (Ok answer) = answer.length
+length_of (Err number) = 0

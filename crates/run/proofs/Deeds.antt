@@ -1,4 +1,5 @@
 -- Each of our deeds is lawful: `lawful`, the last definition, has a clause for each. Assumes nothing.
+use Rattle.std.proofs.Common.{Some, Result, Ok, Err, Bool}
 use Prim.Native.Nat.{ℕ}
 use mathlib.Core.Path.{◌≡◌, refl, sym, ap, ◌∙◌, subst}
 use mathlib.Core.Bool.{true, false, not, false≢true}
@@ -11,7 +12,6 @@ use Rattle.clock.specs.declared.waits.Waits.{Waits}
 use Rattle.choice.proofs.Choices.{if_true, if_cases}
 use Rattle.octets.specs.Addresses.{unicast}
 use Rattle.octets.specs.Codes.{offer, ack, nak}
-use Rattle.octets.specs.declared.number.MaybeNumber.TheVariants.{Some}
 use Rattle.wire.specs.Readings.{message_type}
 use Rattle.tables.specs.Entries.{full}
 use Rattle.tables.specs.Tables.{addrs_of, routes_of, dhcp_addrs, dhcp_routes, prefix_fits, whole_tables}
@@ -24,11 +24,7 @@ use Rattle.settings.specs.declared.settings.Settings.{Settings}
 use Rattle.lease.specs.Bound.{reply_lease}
 use Rattle.client.specs.Resets.{was_reset}
 use Rattle.client.specs.Taken.{processed}
-use Rattle.client.specs.declared.process.Processed.{Processed}
-use Rattle.client.specs.declared.process.ReplyOutcome.{ReplyOutcome}
-use Rattle.client.specs.declared.process.ReplyOutcome.TheVariants as reply
-use Rattle.client.specs.declared.reset.ResetOutcome.{ResetOutcome}
-use Rattle.client.specs.declared.reset.ResetOutcome.TheVariants as reset
+use Rattle.client.specs.Outcomes.{Processed}
 use Rattle.client.proofs.Wholes.{all_parts, all_whole, processed_whole, reset_whole}
 use Rattle.client.proofs.Unchanged.{was_taken, was_made, refused_kept, reply_answered, reset_made}
 use Rattle.client.proofs.Effects.{Settles, reset_settles, reset_clears, Became, unmoved, offered, was_acked, was_cleared, reply_effect}
@@ -36,8 +32,12 @@ use Rattle.run.specs.Calls.{Post, Manual, AddAddress, DropAddress, AddRoute, Dro
 use Rattle.run.specs.Demand3.{given_by, Acked, Cleared, accepted_as, accepted, reply_tells, reply_refused, by_reply, reset_tells, reset_refused, by_reset, hand_refused, History, Lost, Since, JustlyByHand, prefix_over, router_bad, table_full}
 use Rattle.run.proofs.Agreement.{began_by, starts, waits}
 use Rattle.run.proofs.Entries.{own_in, dhcp_in}
-use Rattle.run.proofs.Lawful.{Sound, Lawful, doing, number_in, never_refused}
+use Rattle.run.proofs.Lawful.{Sound, Lawful, doing, never_refused}
 use Rattle.run.proofs.Invariant.{Inv, Effect, keeps, goes, clears, binds, effect_step}
+use Rattle.reasons.specs.declared.refusal.Refusal.{Refusal}
+use Rattle.client.specs.declared.process.NotTaken.{NotTaken}
+use Rattle.client.specs.declared.process.NotTaken.TheVariants.{PassedOver, Refused}
+use Rattle.reasons.specs.declared.refusal.Refusal.TheVariants.{NotWhole, Router, TableFull}
 
 -- A REPLY: what one that is accepted is to the history, by its message type
 module _ (s : Settings) (bytes : List ℕ) where
@@ -53,15 +53,13 @@ module _ (s : Settings) (bytes : List ℕ) where
   unfolding accepted_as when◌then◌else◌
   nak_accepted = refl
 
-  taken_tells : (o : ReplyOutcome) → was_taken o ≡ true → {kind : ℕ} → message_type bytes ≡ Some kind → reply_tells s bytes o ≡ accepted s bytes (Some kind)
-  taken_tells (reply.Taken p) e f = ap (accepted s bytes) f
-  taken_tells (reply.PassedOver n) e f = absurd (false≢true e)
-  taken_tells (reply.Refused n) e f = absurd (false≢true e)
+  taken_tells : (o : Result Bool NotTaken) → was_taken o ≡ true → {kind : ℕ} → message_type bytes ≡ Some kind → reply_tells s bytes o ≡ accepted s bytes (Some kind)
+  taken_tells (Ok p) e f = ap (accepted s bytes) f
+  taken_tells (Err why) e f = absurd (false≢true e)
 
-  untaken_tells : (o : ReplyOutcome) → was_taken o ≡ false → reply_tells s bytes o ≡ []
-  untaken_tells (reply.Taken p) e = absurd (false≢true (sym e))
-  untaken_tells (reply.PassedOver n) e = refl
-  untaken_tells (reply.Refused n) e = refl
+  untaken_tells : (o : Result Bool NotTaken) → was_taken o ≡ false → reply_tells s bytes o ≡ []
+  untaken_tells (Ok p) e = absurd (false≢true (sym e))
+  untaken_tells (Err why) e = refl
 
   module _ (p : Post) (gp : Since) (t : ℕ) (h : History) (lost : Lost) (i : Inv s gp t p.client p.tables h lost) where
     reply_comes : (r : Processed) → Became p.client p.tables bytes (moment (wrap t)) r → Settles p.client p.tables r.client r.tables
@@ -87,10 +85,10 @@ reply_lawful w s source bytes =
       just = λ p now v. never p now v (processed p.client p.tables source bytes now).outcome refl;
     }
   where
-    never : (p : Post) (now : Instant) → Sound s p → (o : ReplyOutcome) → (processed p.client p.tables source bytes now).outcome ≡ o → (n : ℕ) → reply_refused o ≡ Some n → ⊥
-    never p now v (reply.Taken purge) e n f = never_refused n f
-    never p now v (reply.PassedOver m) e n f = never_refused n f
-    never p now v (reply.Refused m) e n f = reply_answered p.client p.tables v.whole source bytes now m e
+    never : (p : Post) (now : Instant) → Sound s p → (o : Result Bool NotTaken) → (processed p.client p.tables source bytes now).outcome ≡ o → (n : Refusal) → reply_refused o ≡ Some n → ⊥
+    never p now v (Ok purge) e n f = never_refused n f
+    never p now v (Err (PassedOver m)) e n f = never_refused n f
+    never p now v (Err (Refused m)) e n f = reply_answered p.client p.tables v.whole source bytes now m e
 
 -- A RESET
 reset_lawful : (w : Waits) (s : Settings) → Lawful w s Reset
@@ -102,16 +100,16 @@ reset_lawful w s =
       just = λ p now v. never p v (was_reset p.client p.tables).outcome refl;
     }
   where
-    comes : (p : Post) (gp : Since) (t : ℕ) (h : History) (lost : Lost) (i : Inv s gp t p.client p.tables h lost) (o : ResetOutcome) → (was_reset p.client p.tables).outcome ≡ o
+    comes : (p : Post) (gp : Since) (t : ℕ) (h : History) (lost : Lost) (i : Inv s gp t p.client p.tables h lost) (o : Result Bool Refusal) → (was_reset p.client p.tables).outcome ≡ o
         → Effect s gp t p.client p.tables p.rand h lost i (by_reset p.rand (was_reset p.client p.tables))
-    comes p gp t h lost i (reset.Done purge) e = clears (ap reset_tells e) (starts (reset_clears p.client p.tables (ap was_made e))) (reset_settles p.client p.tables)
-    comes p gp t h lost i (reset.Refused n) e =
+    comes p gp t h lost i (Ok purge) e = clears (ap reset_tells e) (starts (reset_clears p.client p.tables (ap was_made e))) (reset_settles p.client p.tables)
+    comes p gp t h lost i (Err n) e =
         let k = refused_kept p.client p.tables (ap was_made e) in
         keeps (ap reset_tells e) k.0 (ap dhcp_addrs k.1) (ap dhcp_routes k.1)
 
-    never : (p : Post) → Sound s p → (o : ResetOutcome) → (was_reset p.client p.tables).outcome ≡ o → (n : ℕ) → reset_refused o ≡ Some n → ⊥
-    never p v (reset.Done purge) e n f = never_refused n f
-    never p v (reset.Refused m) e n f = false≢true (sym (ap was_made e) ∙ reset_made p.client p.tables v.whole)
+    never : (p : Post) → Sound s p → (o : Result Bool Refusal) → (was_reset p.client p.tables).outcome ≡ o → (n : Refusal) → reset_refused o ≡ Some n → ⊥
+    never p v (Ok purge) e n f = never_refused n f
+    never p v (Err m) e n f = false≢true (sym (ap was_made e) ∙ reset_made p.client p.tables v.whole)
 
 -- A MANUAL CALL
 module _ (t : Tables) where
@@ -137,25 +135,27 @@ module _ (t : Tables) where
     not_admitted prefix e = if_true false wh refl ∙ not-true (admitted t prefix) e
 
     abbrev Just : Manual → Changed → Type 0
-    Just m c = (n : ℕ) → hand_refused c.outcome ≡ Some n → JustlyByHand m t n
+    Just m c = (n : Refusal) → hand_refused c.outcome ≡ Some n → JustlyByHand m t n
 
-    just_by : (m : Manual) (k : ℕ) → JustlyByHand m t k → (n : ℕ) → Some k ≡ Some n → JustlyByHand m t n
-    just_by m k j n e = subst (JustlyByHand m t) (ap number_in e) j
+    just_by : (m : Manual) (k : Refusal) → JustlyByHand m t k → (n : Refusal) → Some k ≡ Some n → JustlyByHand m t n
+    just_by m k j n e =
+        let same : k ≡ n = cc in
+        subst (JustlyByHand m t) same j
 
     -- what refuses a manual call
     hand_just : (m : Manual) → Just m (changed_by m t)
     unfolding add_address drop_address add_route drop_route
     hand_just (AddAddress a p) =
-        if_cases (Just (AddAddress a p)) (not (admitted t p)) (λ e. just_by (AddAddress a p) 9 (prefix_over (not_admitted p e)))
-        (λ e. if_cases (Just (AddAddress a p)) (full (addrs_of t.ip_addrs)) (λ f. just_by (AddAddress a p) 11 (table_full f)) (λ f n. never_refused n))
+        if_cases (Just (AddAddress a p)) (not (admitted t p)) (λ e. just_by (AddAddress a p) NotWhole (prefix_over (not_admitted p e)))
+        (λ e. if_cases (Just (AddAddress a p)) (full (addrs_of t.ip_addrs)) (λ f. just_by (AddAddress a p) TableFull (table_full f)) (λ f n. never_refused n))
     hand_just (DropAddress a p) =
-        if_cases (Just (DropAddress a p)) (not (admitted t p)) (λ e. just_by (DropAddress a p) 9 (prefix_over (not_admitted p e))) (λ e n. never_refused n)
+        if_cases (Just (DropAddress a p)) (not (admitted t p)) (λ e. just_by (DropAddress a p) NotWhole (prefix_over (not_admitted p e))) (λ e n. never_refused n)
     hand_just (AddRoute n p r) =
-        if_cases (Just (AddRoute n p r)) (not (admitted t p)) (λ e. just_by (AddRoute n p r) 9 (prefix_over (not_admitted p e)))
-        (λ e. if_cases (Just (AddRoute n p r)) (not (unicast r)) (λ f. just_by (AddRoute n p r) 10 (router_bad f))
-        (λ f. if_cases (Just (AddRoute n p r)) (full (routes_of t.routes)) (λ h. just_by (AddRoute n p r) 11 (table_full h)) (λ h m. never_refused m)))
+        if_cases (Just (AddRoute n p r)) (not (admitted t p)) (λ e. just_by (AddRoute n p r) NotWhole (prefix_over (not_admitted p e)))
+        (λ e. if_cases (Just (AddRoute n p r)) (not (unicast r)) (λ f. just_by (AddRoute n p r) Router (router_bad f))
+        (λ f. if_cases (Just (AddRoute n p r)) (full (routes_of t.routes)) (λ h. just_by (AddRoute n p r) TableFull (table_full h)) (λ h m. never_refused m)))
     hand_just (DropRoute n p r) =
-        if_cases (Just (DropRoute n p r)) (not (admitted t p)) (λ e. just_by (DropRoute n p r) 9 (prefix_over (not_admitted p e))) (λ e m. never_refused m)
+        if_cases (Just (DropRoute n p r)) (not (admitted t p)) (λ e. just_by (DropRoute n p r) NotWhole (prefix_over (not_admitted p e))) (λ e m. never_refused m)
 
 hand_lawful : (w : Waits) (s : Settings) (m : Manual) → Lawful w s (ByHand m)
 hand_lawful w s m =

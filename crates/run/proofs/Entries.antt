@@ -1,22 +1,18 @@
 -- DHCP's entries follow what the ACK that is held gives, less any lost. Assumes nothing.
+use Rattle.std.proofs.Common.{Option, None, Some}
 use Prim.Native.Nat.{ℕ}
 use mathlib.Core.Path.{◌≡◌, refl, sym, ap, ◌∙◌}
 use mathlib.Core.Bool.{Bool, true, false}
 use mathlib.Core.List.{List, []}
 use Rattle.choice.specs.Choice.{when◌then◌else◌}
 use Rattle.choice.proofs.Choices.{if_true, if_false}
-use Rattle.octets.specs.declared.number.MaybeNumber.{MaybeNumber}
-use Rattle.octets.specs.declared.number.MaybeNumber.TheVariants.{None, Some}
 use Rattle.tables.specs.Entries.{only, full, less_lost}
-use Rattle.tables.specs.Tables.{addrs_of, routes_of, addr_is_dhcp, route_is_dhcp, dhcp_addrs, other_addrs, dhcp_routes, other_routes}
+use Rattle.tables.specs.Tables.{AddrTable, RouteTable, addrs_of, routes_of, addr_is_dhcp, route_is_dhcp, dhcp_addrs, other_addrs, dhcp_routes, other_routes}
 use Rattle.tables.specs.declared.address.IfaceAddr.{IfaceAddr}
-use Rattle.tables.specs.declared.address.AddrTable.{AddrTable}
 use Rattle.tables.specs.declared.route.Route.{Route}
-use Rattle.tables.specs.declared.route.RouteTable.{RouteTable}
 use Rattle.tables.specs.Applied.{same_cidr, same_router, leased_addrs, leased_routes}
 use Rattle.tables.specs.declared.tables.Tables.{Tables}
-use Rattle.tables.specs.declared.apply.MaybeCidr.{MaybeCidr}
-use Rattle.tables.specs.declared.apply.MaybeCidr.TheVariants.{Absent, Cidr}
+use Rattle.tables.specs.declared.apply.Cidr.{Cidr}
 use Rattle.tables.specs.declared.apply.Installed.{Installed}
 use Rattle.tables.proofs.Origins.{same_cidr_lem, same_cidr_self, same_router_lem, same_router_self}
 use Rattle.lease.specs.Leases.{nothing}
@@ -56,11 +52,11 @@ module _ (tb tb' : Tables) (lost : Lost) where
         routes = n.routes ∙ no_routes i.router k.routes ∙ sym (lost_none lost.route);
       }
     where
-      no_addrs : (m : MaybeCidr) → dhcp_addrs tb ≡ unless_lost lost.addr (leased_addrs m) → (when same_cidr Absent m then dhcp_addrs tb else less_lost (other_addrs tb) []) ≡ []
-      no_addrs Absent e = sym (if_true _ refl refl) ∙ e ∙ lost_none lost.addr
-      no_addrs (Cidr a p) e = sym (if_false _ refl refl) ∙ none_taken (other_addrs tb)
+      no_addrs : (m : Option Cidr) → dhcp_addrs tb ≡ unless_lost lost.addr (leased_addrs m) → (when same_cidr None m then dhcp_addrs tb else less_lost (other_addrs tb) []) ≡ []
+      no_addrs None e = sym (if_true _ refl refl) ∙ e ∙ lost_none lost.addr
+      no_addrs (Some a) e = sym (if_false _ refl refl) ∙ none_taken (other_addrs tb)
 
-      no_routes : (m : MaybeNumber) → dhcp_routes tb ≡ unless_lost lost.route (leased_routes m) → (when same_router None m then dhcp_routes tb else less_lost (other_routes tb) []) ≡ []
+      no_routes : (m : Option ℕ) → dhcp_routes tb ≡ unless_lost lost.route (leased_routes m) → (when same_router None m then dhcp_routes tb else less_lost (other_routes tb) []) ≡ []
       no_routes None e = sym (if_true _ refl refl) ∙ e ∙ lost_none lost.route
       no_routes (Some a) e = sym (if_false _ refl refl) ∙ none_taken (other_routes tb)
 
@@ -76,12 +72,12 @@ module _ (tb tb' : Tables) (lost : Lost) where
     where
       of_addrs : (b : Bool) → same_cidr new.address (held_by h).address ≡ b
           → (when b then dhcp_addrs tb else less_lost (other_addrs tb) (leased_addrs new.address)) ≡ unless_lost (when b then lost.addr else full (other_addrs tb)) (leased_addrs new.address)
-      of_addrs true e = k.addrs ∙ ap (λ (m : MaybeCidr). unless_lost lost.addr (leased_addrs m)) (sym (same_cidr_lem new.address (held_by h).address e))
+      of_addrs true e = k.addrs ∙ ap (λ (m : Option Cidr). unless_lost lost.addr (leased_addrs m)) (sym (same_cidr_lem new.address (held_by h).address e))
       of_addrs false e = refl
 
       of_routes : (b : Bool) → same_router new.router (held_by h).router ≡ b
           → (when b then dhcp_routes tb else less_lost (other_routes tb) (leased_routes new.router)) ≡ unless_lost (when b then lost.route else full (other_routes tb)) (leased_routes new.router)
-      of_routes true e = k.routes ∙ ap (λ (m : MaybeNumber). unless_lost lost.route (leased_routes m)) (sym (same_router_lem new.router (held_by h).router e))
+      of_routes true e = k.routes ∙ ap (λ (m : Option ℕ). unless_lost lost.route (leased_routes m)) (sym (same_router_lem new.router (held_by h).router e))
       of_routes false e = refl
 
 -- DHCP's entries of one table

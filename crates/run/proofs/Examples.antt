@@ -1,4 +1,5 @@
 -- Corners of a run, computed: from a fresh client with the usual waits to an ACK, and on. Assumes nothing.
+use Rattle.std.proofs.Common.{Result, Ok, Err}
 use Prim.Native.Nat.{ℕ, ◌*◌, ◌≤◌}
 use mathlib.Core.Path.{◌≡◌, refl, ap, ◌∙◌}
 use mathlib.Core.Bool.{true, false}
@@ -17,18 +18,19 @@ use Rattle.tables.specs.Tables.{addr_table, route_table, empty_tables, dhcp_addr
 use Rattle.tables.specs.Applied.{leased_addr}
 use Rattle.lease.specs.Leases.{no_lease}
 use Rattle.client.specs.Polls.{silent}
+use Rattle.client.specs.declared.poll.PollAnswer.{PollAnswer}
 use Rattle.sending.specs.Sendings.{broadcast}
-use Rattle.client.specs.declared.poll.PollOutcome.{PollOutcome}
-use Rattle.client.specs.declared.poll.PollOutcome.TheVariants.{Answered, Refused}
 use Rattle.run.specs.Calls.{Post, calls}
 use Rattle.run.specs.Demand3.{Entry, Run, moment_after, stepped, after, is_held, since, Timely}
 use Rattle.run.proofs.Sample.{plain, standing, lease_by, server, address, offer, ack_with, poll_into, poll_after, reply_now, from_fresh, runs, until_ack, computing}
+use Rattle.reasons.specs.declared.refusal.Refusal.{Refusal}
+use Rattle.reasons.specs.declared.refusal.Refusal.TheVariants.{ShortBuffer}
 
 -- The run from an ACK with these options, at a moment; what a poll then answers.
 abbrev from : ℕ → List ℕ → List Entry → Run
 from m more es = runs calls (from_fresh empty_tables m) (until_ack more ++ es)
 
-abbrev answers : Post → List ℕ → ℕ → PollOutcome
+abbrev answers : Post → List ℕ → ℕ → Result PollAnswer Refusal
 answers p buffer step = (calls.poll p.client p.tables p.rand (moment_after p step) buffer).polled.outcome
 
 -- Demand 3: "at most 2^30 ms from one poll not refused to the next". Were refused ones counted, it would be false: after an ACK
@@ -37,8 +39,8 @@ answers p buffer step = (calls.poll p.client p.tables p.rand (moment_after p ste
 abbrev starved : List Entry
 starved = poll_into (0 ∷ []) longest ∷ poll_into (0 ∷ []) longest ∷ poll_after longest ∷ []
 
-pub refused_starve : (answers (from 0 [] []).post (0 ∷ []) longest ≡ Refused 8)
-    × (answers (from 0 [] (poll_into (0 ∷ []) longest ∷ [])).post (0 ∷ []) longest ≡ Refused 8)
+pub refused_starve : (answers (from 0 [] []).post (0 ∷ []) longest ≡ Err ShortBuffer)
+    × (answers (from 0 [] (poll_into (0 ∷ []) longest ∷ [])).post (0 ∷ []) longest ≡ Err ShortBuffer)
     × (has_lease (from 0 [] starved).post.client.session.state ≡ true)
     × (is_held (from 0 [] starved).history ≡ false)
 unfolding computing
@@ -89,8 +91,8 @@ bound_so : (m : ℕ) (more : List ℕ) (s : RenewState)
 bound_so m more s before after = ap (λ (p : Post). stepped calls plain p (reply_now (ack_with more))) before ∙ after
 
 -- A Request of 270 octets.
-abbrev asks : (destination wake : ℕ) → PollOutcome
-asks destination wake = Answered (record { length = 270; source = address; destination = destination; wake = moment wake; purge = false })
+abbrev asks : (destination wake : ℕ) → Result PollAnswer Refusal
+asks destination wake = Ok (record { length = 270; source = address; destination = destination; wake = moment wake; purge = false })
 
 -- Document 01: "A moment plus a wait wraps at 2^32". An ACK at the last moment before: a poll 1 ms before renewal waits for it,
 -- and one at it asks; the lease is held until its last moment.
@@ -101,7 +103,7 @@ pub wrapped_bound : (from 4294967295 [] []).post ≡ wrapped
 unfolding computing
 wrapped_bound = bound_so 4294967295 [] (timers 59999 104999 119999) refl refl
 
-pub wrapped_lease : (answers wrapped (replicate 300 0) 59999 ≡ Answered (silent (moment 59999)))
+pub wrapped_lease : (answers wrapped (replicate 300 0) 59999 ≡ Ok (silent (moment 59999)))
     × (answers wrapped (replicate 300 0) 60000 ≡ asks server.address 104999)
     × (has_lease (after calls plain wrapped (poll_after 60000 ∷ poll_after 59999 ∷ [])).client.session.state ≡ true)
     × (has_lease (after calls plain wrapped (poll_after 60000 ∷ poll_after 60000 ∷ [])).client.session.state ≡ false)
@@ -133,7 +135,7 @@ pub long_bound : (from 0 two_days []).post ≡ long
 unfolding computing
 long_bound = bound_so 0 two_days (timers day 151200000 172800000) refl refl
 
-pub due_a_day_on : (answers long [] 0 ≡ Answered (silent (moment day)))
+pub due_a_day_on : (answers long [] 0 ≡ Ok (silent (moment day)))
     × (stepped calls plain long (poll_after 0) ≡ long)
     × (answers long (replicate 300 0) day ≡ asks server.address 118800000)
 unfolding computing

@@ -1,4 +1,5 @@
 -- What holds all along a run of our calls, and that each call keeps it. Assumes nothing.
+use Rattle.std.proofs.Common.{Option}
 use Prim.Native.Nat.{ℕ, ◌+◌, ◌≤◌, ◌<◌}
 use mathlib.Core.Path.{◌≡◌, refl, sym, ap, ◌∙◌, subst, subst⁻¹}
 use mathlib.Core.Bool.{true, false, false≢true}
@@ -25,7 +26,7 @@ use Rattle.machine.proofs.Decisions.{Goes, discovers_from, requests_again, renew
 use Rattle.machine.proofs.Bounds.{lease_most, row_nearer}
 use Rattle.tables.specs.Tables.{dhcp_addrs, dhcp_routes}
 use Rattle.tables.specs.declared.tables.Tables.{Tables}
-use Rattle.tables.specs.declared.apply.MaybeCidr.{MaybeCidr}
+use Rattle.tables.specs.declared.apply.Cidr.{Cidr}
 use Rattle.tables.specs.declared.apply.Installed.{Installed}
 use Rattle.settings.specs.Settings.{maximum_of}
 use Rattle.lease.specs.Leases.{nothing}
@@ -40,6 +41,7 @@ use Rattle.run.specs.Demand3.{given_by, Event, Acked, Cleared, poll_tells, Done,
 use Rattle.run.proofs.Polls.{Outcome, refuses, idles, moves, outcome}
 use Rattle.run.proofs.Agreement.{agree_later, agree_same, dated_by_later, Timing, timing, Began, dated_anew, Leaseless, leaseless_timers, leaseless_shows, leaseless_dated, leaseless_agrees, leaseless_none, lease_is, held_on, none_held, ahead_held, fitting, Agree, DatedBy, in_time_lem, late}
 use Rattle.run.proofs.Entries.{Tab, tab_kept, tab_none, tab_acked}
+use Rattle.reasons.specs.declared.refusal.Refusal.{Refusal}
 
 -- At t, gp after the last poll that was not refused.
 pub record Inv (s : Settings) (gp : Since) (t : ℕ) (c : Client) (tb : Tables) (h : History) (lost : Lost) : Type 0 where
@@ -71,7 +73,7 @@ inv_later s gp t y c tb h lost i =
 given_by_lem : (bytes : List ℕ) (i : Installed) → Given bytes i → i ≡ given_by bytes
 given_by_lem bytes i g =
     let r = g.reads in
-    g.is ∙ ap (λ (m : MaybeCidr). record { address = m; router = router bytes }) (sym (rw (r.address_is, r.masked, r.prefix_is) refl))
+    g.is ∙ ap (λ (m : Option Cidr). record { address = m; router = router bytes }) (sym (rw (r.address_is, r.masked, r.prefix_is) refl))
 
 module _ (s : Settings) (gp : Since) (t : ℕ) (c : Client) (tb : Tables) (g : Rand) (h : History) (lost : Lost) (i : Inv s gp t c tb h lost) where
   -- What is owed of a call that leaves c' and tb' and tells the history of these events.

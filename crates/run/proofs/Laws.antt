@@ -1,5 +1,6 @@
 -- Laws of a run, of any set of calls: what creation returned is where it starts, whatever the moment; a long step is several
 -- short ones, and only its rest of 2^32 counts for the moment. Assumes nothing.
+use Rattle.std.proofs.Common.{Ok}
 use Prim.Native.Nat.{ℕ, ◌+◌, ◌^◌, ◌<◌}
 use mathlib.Core.Path.{◌≡◌, refl, ap, ◌∙◌}
 use mathlib.Core.Bool.{Bool}
@@ -9,15 +10,16 @@ use Rattle.clock.specs.Moments.{wrap, plus, moment}
 use Rattle.clock.specs.declared.instant.Instant.{Instant}
 use Rattle.clock.specs.declared.rand.Rand.{Rand}
 use Rattle.tables.specs.declared.tables.Tables.{Tables}
+use Rattle.client.specs.declared.client.Client.{Client}
 use Rattle.settings.specs.declared.settings.Settings.{Settings}
 use Rattle.run.specs.Calls.{Post, Calls, Call, LookUp, Query}
 use Rattle.run.specs.Demand3.{CameTo, Polls, Does, Answers, leaves, tells, comes, stepped, History, NoAck, Held, older, noted_all, lost_all, Run, start, next}
 
 -- THE START: a client that creation returned, with tables, generator and a moment of the clock.
-pub created_start : (k : Calls) (s : Settings) (ignoring : Bool) (t : Tables) (rand : Rand) (now : Instant) → now.millis < 2 ^ 32
-    → record { client = (k.create s ignoring).client; tables = t; rand = rand; now = now } ≡ (start (k.create s ignoring).client t rand now.millis).post
-created_start k s ignoring t rand now h =
-    ap (λ (m : ℕ). record { client = (k.create s ignoring).client; tables = t; rand = rand; now = moment m }) (same now.millis h)
+pub created_start : (k : Calls) (s : Settings) (ignoring : Bool) (c : Client) → k.create s ignoring ≡ Ok c → (t : Tables) (rand : Rand) (now : Instant) → now.millis < 2 ^ 32
+    → record { client = c; tables = t; rand = rand; now = now } ≡ (start c t rand now.millis).post
+created_start k s ignoring c made t rand now h =
+    ap (λ (m : ℕ). record { client = c; tables = t; rand = rand; now = moment m }) (same now.millis h)
   where
     same : (m : ℕ) → m < 2 ^ 32 → m ≡ wrap m
     same m l = omega arith

@@ -1,4 +1,6 @@
 -- From whole tables no call locks a client out: what is refused, is refused for its own arguments. Assumes nothing.
+use Rattle.client.specs.declared.poll.PollAnswer.{PollAnswer}
+use Rattle.std.proofs.Common.{Some, Option, None, Err, Result, Ok}
 use Prim.Native.Nat.{ℕ, ◌-◌, ◌≤◌}
 use mathlib.Core.Path.{◌≡◌, refl, sym, ap, ◌∙◌, subst, subst⁻¹}
 use mathlib.Core.Bool.{Bool, true, false, not, false≢true}
@@ -15,33 +17,31 @@ use Rattle.machine.specs.Decisions.{decided_discovering, decided_requesting, nex
 use Rattle.machine.specs.declared.state.ClientState.{ClientState}
 use Rattle.machine.specs.declared.state.ClientState.TheVariants.{Init, Discovering, Requesting, Renewing}
 use Rattle.machine.specs.declared.decide.Sending.{Sending}
-use Rattle.machine.specs.declared.decide.Due.{Due}
-use Rattle.machine.specs.declared.decide.Due.TheVariants.{Nothing, Send}
 use Rattle.machine.specs.declared.decide.Decision.{Decision}
 use Rattle.tables.specs.declared.tables.Tables.{Tables}
 use Rattle.client.specs.Clients.{whole_all}
 use Rattle.client.specs.Polls.{PolledInto, datagram_of, too_short, polled_as, polled_by, polled_with}
 use Rattle.settings.specs.declared.settings.Settings.{Settings}
 use Rattle.client.specs.declared.client.Client.{Client}
-use Rattle.client.specs.declared.poll.PollOutcome.TheVariants as poll
 use Rattle.client.proofs.Wholes.{all_parts}
 use Rattle.client.proofs.Effects.{Fitting, moved_settles}
 use Rattle.client.proofs.Polling.{sent_cases, polled_whole, datagram_fits, moved_whole}
-use Rattle.octets.specs.declared.number.MaybeNumber.TheVariants.{Some}
 use Rattle.run.specs.Calls.{Post, calls_with}
 use Rattle.run.specs.Demand3.{Entry, moment_after, CameTo, IfPolls, IfDoes, leaves, adds, next, Run, Throughout, Enough, Builds, TooShort, Justly, Open}
-use Rattle.run.proofs.Answers.{is_answered, number_of}
+use Rattle.run.proofs.Answers.{is_answered}
 use Rattle.run.proofs.Polls.{enough_or_short, short_lent, sends_by}
 use Rattle.run.proofs.Sorted.{Sorted, polls, does, answers, sorted}
 use Rattle.run.proofs.Lawful.{Sound}
 use Rattle.run.proofs.Deeds.{lawful}
+use Rattle.reasons.specs.declared.refusal.Refusal.{Refusal}
+use Rattle.reasons.specs.declared.refusal.Refusal.TheVariants.{ShortBuffer}
 
 -- A POLL
 
 -- what is due fits the state
-abbrev FitDue : Client → Due → Type 0
-FitDue c Nothing = Unit {0}
-FitDue c (Send s) = Fitting c s
+abbrev FitDue : Client → Option Sending → Type 0
+FitDue c None = Unit {0}
+FitDue c (Some s) = Fitting c s
 
 module _ (c : Client) (w : Waits) (m : ℕ) where
   abbrev Fits : Decision → Type 0
@@ -72,24 +72,27 @@ module _ (w : Waits) (c : Client) (tb : Tables) (g : Rand) (now : Instant) (wh :
       subst⁻¹ SoundAfter (polled_whole c tb g b wh w now)
       (by (decided w c.session.state now.millis).due (decided w c.session.state now.millis).wake (decided_fits c w now.millis c.session.state refl))
     where
-      by : (d : Due) (m : Instant) → FitDue c d → SoundAfter (polled_as c tb g b m d)
-      by Nothing m f = (wh, refl)
-      by (Send s) m f = sent_cases c tb g b SoundAfter (wh, refl) m s (moved_whole c tb wh g b m s f, (moved_settles c tb g b m s f).settings)
+      by : (d : Option Sending) (m : Instant) → FitDue c d → SoundAfter (polled_as c tb g b m d)
+      by None m f = (wh, refl)
+      by (Some s) m f = sent_cases c tb g b SoundAfter (wh, refl) m s (moved_whole c tb wh g b m s f, (moved_settles c tb g b m s f).settings)
+
+  reasons_same : {j k : Refusal} → ◌≡◌ {A = Result PollAnswer Refusal} (Err j) (Err k) → j ≡ k
+  reasons_same e = cc
 
   -- What a refusal of a poll tells.
-  record Refusal (b : List ℕ) (k : ℕ) : Type 0 where
-    by_8 : k ≡ 8
+  record Refuses (b : List ℕ) (k : Refusal) : Type 0 where
+    by_8 : k ≡ ShortBuffer
     sent : Sending
     short : too_short b (length (datagram_of c g sent)) ≡ true
     longer : (other : List ℕ) → too_short other (length (datagram_of c g sent)) ≡ false → Builds (length (datagram_of c g sent)) other (polled_with w c tb g now other)
 
-  module _ (b : List ℕ) (k : ℕ) where
-    by_sends : (s : Sending) (m : Instant) → decided w c.session.state now.millis ≡ record { due = Send s; wake = m }
-        → (polled_by c tb g b (record { due = Send s; wake = m })).polled.outcome ≡ poll.Refused k → (v : Bool) → too_short b (length (datagram_of c g s)) ≡ v → Refusal b k
+  module _ (b : List ℕ) (k : Refusal) where
+    by_sends : (s : Sending) (m : Instant) → decided w c.session.state now.millis ≡ record { due = Some s; wake = m }
+        → (polled_by c tb g b (record { due = Some s; wake = m })).polled.outcome ≡ Err k → (v : Bool) → too_short b (length (datagram_of c g s)) ≡ v → Refuses b k
     by_sends s m q f true t =
         let n = sends_by c tb g m s in
         record {
-          by_8 = sym (ap number_of (sym (ap (λ (r : PolledInto). r.polled.outcome) (n.refuses b t)) ∙ f));
+          by_8 = sym (reasons_same (sym (ap (λ (r : PolledInto). r.polled.outcome) (n.refuses b t)) ∙ f));
           sent = s;
           short = t;
           longer = λ other l.
@@ -99,18 +102,18 @@ module _ (w : Waits) (c : Client) (tb : Tables) (g : Rand) (now : Instant) (wh :
         let n = (sends_by c tb g m s).builds b t in
         absurd (false≢true (sym (ap is_answered (sym n.answered ∙ f))))
 
-    by_due : (d : Due) (m : Instant) → decided w c.session.state now.millis ≡ record { due = d; wake = m } → (polled_as c tb g b m d).polled.outcome ≡ poll.Refused k → Refusal b k
-    by_due Nothing m q f = absurd (false≢true (sym (ap is_answered f)))
-    by_due (Send s) m q f = by_sends s m q f (too_short b (length (datagram_of c g s))) refl
+    by_due : (d : Option Sending) (m : Instant) → decided w c.session.state now.millis ≡ record { due = d; wake = m } → (polled_as c tb g b m d).polled.outcome ≡ Err k → Refuses b k
+    by_due None m q f = absurd (false≢true (sym (ap is_answered f)))
+    by_due (Some s) m q f = by_sends s m q f (too_short b (length (datagram_of c g s))) refl
 
-    refusal : (polled_with w c tb g now b).polled.outcome ≡ poll.Refused k → Refusal b k
+    refusal : (polled_with w c tb g now b).polled.outcome ≡ Err k → Refuses b k
     refusal e =
         by_due (decided w c.session.state now.millis).due (decided w c.session.state now.millis).wake refl
         (sym (ap (λ (r : PolledInto). r.polled.outcome) (polled_whole c tb g b wh w now)) ∙ e)
 
 -- THE RUN
 module _ (w : Waits) (s : Settings) where
-  poll_open : (p : Post) (now : Instant) → Sound s p → (b : List ℕ) (k : ℕ) → (polled_with w p.client p.tables p.rand now b).polled.outcome ≡ poll.Refused k
+  poll_open : (p : Post) (now : Instant) → Sound s p → (b : List ℕ) (k : Refusal) → (polled_with w p.client p.tables p.rand now b).polled.outcome ≡ Err k
       → TooShort (calls_with w) s p now b k
   poll_open p now v b k e =
       let r = refusal w p.client p.tables p.rand now v.whole b k e in
@@ -125,12 +128,12 @@ module _ (w : Waits) (s : Settings) where
       }
 
   polls_open : (p : Post) (now : Instant) → Sound s p → {x : CameTo} → Sorted w s p.client p.tables p.rand now x
-      → IfPolls (λ b left. (k : ℕ) → left.polled.outcome ≡ poll.Refused k → TooShort (calls_with w) s p now b k) x
+      → IfPolls (λ b left. (k : Refusal) → left.polled.outcome ≡ Err k → TooShort (calls_with w) s p now b k) x
   polls_open p now v (polls b) = poll_open p now v b
   polls_open p now v (does d) = tt
   polls_open p now v answers = tt
 
-  deeds_open : (p : Post) (now : Instant) → Sound s p → {x : CameTo} → Sorted w s p.client p.tables p.rand now x → IfDoes (λ d left. (n : ℕ) → left.refused ≡ Some n → Justly (calls_with w) s p now d n) x
+  deeds_open : (p : Post) (now : Instant) → Sound s p → {x : CameTo} → Sorted w s p.client p.tables p.rand now x → IfDoes (λ d left. (n : Refusal) → left.refused ≡ Some n → Justly (calls_with w) s p now d n) x
   deeds_open p now v (polls b) = tt
   deeds_open p now v (does d) = (lawful w s d).just p now v
   deeds_open p now v answers = tt

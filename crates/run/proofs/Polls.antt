@@ -1,4 +1,5 @@
 -- Our poll, sorted by its outcome: on time that never wraps where all open deadlines are near, and at any time. Assumes nothing.
+use Rattle.std.proofs.Common.{Some}
 use Prim.Native.Nat.{ℕ, ◌≤◌, ◌<◌}
 use mathlib.Core.Path.{◌≡◌, refl, sym, subst}
 use mathlib.Core.Bool.{Bool, true, false, not, false≢true}
@@ -14,7 +15,6 @@ use Rattle.clock.specs.declared.waits.Waits.{Waits}
 use Rattle.choice.proofs.Choices.{if_true, if_false, if_cases}
 use Rattle.machine.specs.Decisions.{decided, following, InRange}
 use Rattle.machine.specs.declared.decide.Sending.{Sending}
-use Rattle.machine.specs.declared.decide.Due.TheVariants.{Send}
 use Rattle.machine.specs.declared.decide.Decision.{Decision}
 use Rattle.machine.proofs.Timers.{Timers, Shows, Near, Ahead, soonest, wake_at}
 use Rattle.machine.proofs.Decisions.{Goes, Decides, nothing, sending, decides}
@@ -24,10 +24,12 @@ use Rattle.client.specs.Polls.{PolledInto, datagram_of, refused_by, passed_by, m
 use Rattle.client.specs.declared.client.Client.{Client}
 use Rattle.client.proofs.Polling.{sent_cases}
 use Rattle.run.specs.Demand3.{Enough, Builds}
+use Rattle.reasons.specs.declared.refusal.Refusal.{Refusal}
+use Rattle.reasons.specs.declared.refusal.Refusal.TheVariants.{ShortBuffer}
 
 module _ (c : Client) (t : Tables) (g : Rand) (b : List ℕ) where
   pub data Outcome (u : ℕ) (x : Timers) : PolledInto → Type 0 where
-    refuses : {n : ℕ} → Outcome u x (refused_by c t g b n)
+    refuses : {n : Refusal} → Outcome u x (refused_by c t g b n)
     idles : {m : ℕ} → m ≡ wrap (wake_at u x) → Ahead u x → whole_all c t ≡ true → Outcome u x (passed_by c t g b (moment m))
     moves : {m : ℕ} {s : Sending} (x' : Timers) → m ≡ wrap (wake_at u x') → Goes u x s x' → Shows x' (following s) → Ahead u x' → soonest x ≤ u → whole_all c t ≡ true
         → Outcome u x (moved c t g b (moment m) s)
@@ -62,13 +64,13 @@ short_lent n (y ∷ ys) e = (omega arith, ltb-true (length (y ∷ ys)) n e)
 -- A decision to send s: the message's length is one number, whatever the buffer.
 pub record Sends (c : Client) (t : Tables) (g : Rand) (d : Decision) (s : Sending) : Type 0 where
   pub builds : (b : List ℕ) → too_short b (length (datagram_of c g s)) ≡ false → Builds (length (datagram_of c g s)) b (polled_by c t g b d)
-  pub refuses : (b : List ℕ) → too_short b (length (datagram_of c g s)) ≡ true → polled_by c t g b d ≡ refused_by c t g b 8
+  pub refuses : (b : List ℕ) → too_short b (length (datagram_of c g s)) ≡ true → polled_by c t g b d ≡ refused_by c t g b ShortBuffer
 
 moved_builds : (c : Client) (t : Tables) (g : Rand) (m : Instant) (s : Sending) (b : List ℕ) → Builds (length (datagram_of c g s)) b (moved c t g b m s)
 moved_builds c t g m s [] = record { answer = _; answered = refl; length = refl }
 moved_builds c t g m s (y ∷ ys) = record { answer = _; answered = refl; length = refl }
 
-pub sends_by : (c : Client) (t : Tables) (g : Rand) (m : Instant) (s : Sending) → Sends c t g (record { due = Send s; wake = m }) s
+pub sends_by : (c : Client) (t : Tables) (g : Rand) (m : Instant) (s : Sending) → Sends c t g (record { due = Some s; wake = m }) s
 unfolding sent
 sends_by c t g m s =
     record {

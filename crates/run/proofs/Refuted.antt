@@ -1,4 +1,5 @@
 -- The wrong clients of specs/Wrong.antt: none meets `Demand3`. Assumes nothing.
+use Rattle.std.proofs.Common.{Result, Ok}
 use Prim.Native.Nat.{ℕ, ◌+◌, ◌≤◌, ◌<◌}
 use mathlib.Core.Path.{◌≡◌, ap, sym, refl, ◌∙◌}
 use mathlib.Core.Bool.{Bool, true, false, false≢true}
@@ -15,19 +16,19 @@ use Rattle.octets.specs.Items.{option}
 use Rattle.machine.specs.States.{has_lease}
 use Rattle.tables.specs.Tables.{empty_tables, dhcp_addrs, dhcp_routes, addr_table, route_table, prefix_fits}
 use Rattle.tables.specs.Manual.{manual_addr}
-use Rattle.tables.specs.declared.outcome.Outcome.TheVariants.{Done}
 use Rattle.tables.specs.declared.route.Route.{Route}
 use Rattle.tables.specs.declared.tables.Tables.{Tables}
 use Rattle.client.specs.Clients.{fresh, created}
 use Rattle.client.specs.Polls.{silent}
 use Rattle.client.specs.declared.client.Client.{Client}
-use Rattle.client.specs.declared.client.Created.{Created}
 use Rattle.settings.specs.declared.settings.Settings.{Settings}
 use Rattle.run.specs.Calls.{Calls, Manual, AddRoute, DropAddress, Reset, ByHand}
 use Rattle.run.specs.Demand3.{Entry, Run, start, Throughout, After, Open, Since, never, since, later, counted, in_time, is_polled, told, Timely, adds, stepped, total, next, unless_lost, JustlyByHand, prefix_over, router_bad, table_full, prefix_in, bad_router, no_room, Demand3}
 use Rattle.run.specs.Wrong.{daily, hasty, refusing, unexpiring, entering, restless, clinging, keeping, unmeasured, processed_again, losing, linger, lingering, doubling, awaiting, hurry, hurrying, wiping, counting, late, smaller, unwrapped, boasting, misnumbering, muzzled, deaf, stubborn, rigid}
 use Rattle.run.proofs.Answers.{is_answered, length_of}
 use Rattle.run.proofs.Sample.{plain, server, ack_with, reply_with, poll_into, poll_after, do_now, reply_now, from_fresh, until_ack, computing, plain_created}
+use Rattle.reasons.specs.declared.refusal.Refusal.{Refusal}
+use Rattle.reasons.specs.declared.refusal.Refusal.TheVariants.{ShortBuffer, LongestMessage, NotWhole, Router, TableFull}
 
 -- A list that takes at most 2^30 ms is timely, however its polls end.
 abbrev passed : Since → ℕ
@@ -60,14 +61,8 @@ short_timely k s gap r (e ∷ es) h =
 claimed : (k : Calls) → k.create plain false ≡ created plain false → Demand3 k
     → (t : Tables) → dhcp_addrs t ≡ [] → dhcp_routes t ≡ [] → (m : ℕ) (es : List Entry) → total k plain (from_fresh t m).post es ≤ longest
     → Throughout k plain (After k plain) (from_fresh t m) es
-claimed k e d t addrs routes m es = from made (e ∙ plain_created) refl
-  where
-    made : Created
-    made = record { client = fresh plain false; outcome = Done }
-
-    from : (c : Created) → k.create plain false ≡ c → c.outcome ≡ Done → total k plain (start c.client t (generator 0) m).post es ≤ longest
-        → Throughout k plain (After k plain) (start c.client t (generator 0) m) es
-    from c same = rw (← same) (λ taken h. d.owed plain false taken t addrs routes (generator 0) m es (short_timely k plain never _ es (omega arith)))
+claimed k e d t addrs routes m es h =
+    d.owed plain false (fresh plain false) (e ∙ plain_created) t addrs routes (generator 0) m es (short_timely k plain never _ es (omega arith))
 
 -- Its first entry, a poll with an empty buffer; and any list, from whole tables.
 first : (k : Calls) → k.create plain false ≡ created plain false → Demand3 k → (m : ℕ) → After k plain (from_fresh empty_tables m) (poll_after 0)
@@ -76,13 +71,7 @@ first k e d m = (claimed k e d empty_tables refl refl m (poll_after 0 ∷ []) (o
 
 opened : (k : Calls) → k.create plain false ≡ created plain false → Demand3 k → (es : List Entry) → Throughout k plain (Open k plain) (from_fresh empty_tables 0) es
 unfolding computing
-opened k e d es = from made (e ∙ plain_created) refl
-  where
-    made : Created
-    made = record { client = fresh plain false; outcome = Done }
-
-    from : (c : Created) → k.create plain false ≡ c → c.outcome ≡ Done → Throughout k plain (Open k plain) (start c.client empty_tables (generator 0) 0) es
-    from c same = rw (← same) (λ taken. d.no_lockout plain false taken empty_tables refl (generator 0) 0 es)
+opened k e d es = d.no_lockout plain false (fresh plain false) (e ∙ plain_created) empty_tables refl (generator 0) 0 es
 
 -- Wakes every 24 hours: the second Discover is due 10 s after the first, and draws an id.
 pub daily_fails : Demand3 daily → ⊥
@@ -117,7 +106,7 @@ never_nothing n m h e f = omega arith
 pub hasty_fails_longer : Demand3 hasty → ⊥
 unfolding computing unmeasured
 hasty_fails_longer d =
-    let short = (opened hasty refl d (poll_after 0 ∷ poll_into (0 ∷ []) 0 ∷ [])).1.0.polls 8 refl in
+    let short = (opened hasty refl d (poll_after 0 ∷ poll_into (0 ∷ []) 0 ∷ [])).1.0.polls ShortBuffer refl in
     let built = short.longer (replicate 556 0) short.most in
     never_nothing short.n _ (omega (arith, short.short)) refl (ap length_of built.answered ∙ built.length)
 
@@ -125,21 +114,21 @@ hasty_fails_longer d =
 pub refusing_fails : Demand3 refusing → ⊥
 unfolding computing
 refusing_fails d =
-    let lent = ((opened refusing refl d (poll_after 0 ∷ [])).0.polls 8 refl).lent in
+    let lent = ((opened refusing refl d (poll_after 0 ∷ [])).0.polls ShortBuffer refl).lent in
     omega arith
 
 -- Refuses by 7: a Discover is due, and the buffer has one octet.
 pub misnumbering_fails : Demand3 misnumbering → ⊥
 unfolding computing
 misnumbering_fails d =
-    let number : ◌≡◌ {A = ℕ} 7 8 = ((opened misnumbering refl d (poll_into (0 ∷ []) 0 ∷ [])).0.polls 7 refl).by_8 in
-    omega arith
+    let reason : ◌≡◌ {A = Refusal} LongestMessage ShortBuffer = ((opened misnumbering refl d (poll_into (0 ∷ []) 0 ∷ [])).0.polls LongestMessage refl).by_8 in
+    cc
 
 -- Refuses every buffer that is not empty: one of 556 octets, too.
 pub muzzled_fails : Demand3 muzzled → ⊥
 unfolding computing
 muzzled_fails d =
-    let short = (opened muzzled refl d (poll_into (replicate 556 0) 0 ∷ [])).0.polls 8 refl in
+    let short = (opened muzzled refl d (poll_into (replicate 556 0) 0 ∷ [])).0.polls ShortBuffer refl in
     omega (arith, short.short, short.most)
 
 -- Never wakes for expiry: a poll 1 ms before it rebinds, the next Request lies past it, and the poll 1 ms on drops the lease.
@@ -269,36 +258,36 @@ late_fails d =
 -- Refuses every reply; every reset.
 pub deaf_fails : Demand3 deaf → ⊥
 unfolding computing
-deaf_fails d = (opened deaf refl d (reply_now [] ∷ [])).0.deeds 9 refl
+deaf_fails d = (opened deaf refl d (reply_now [] ∷ [])).0.deeds NotWhole refl
 
 pub stubborn_fails : Demand3 stubborn → ⊥
 unfolding computing
-stubborn_fails d = (opened stubborn refl d (do_now Reset ∷ [])).0.deeds 9 refl
+stubborn_fails d = (opened stubborn refl d (do_now Reset ∷ [])).0.deeds NotWhole refl
 
 -- Refuses every manual call, by 9, 10 or 11: a route that is in order, into empty tables.
-abbrev Grounds : Manual → Tables → ℕ → Type 0
-Grounds m t n = (n ≡ 9 → prefix_fits (prefix_in m) ≡ false) × (n ≡ 10 → bad_router m ≡ true) × (n ≡ 11 → no_room m t ≡ true)
+abbrev Grounds : Manual → Tables → Refusal → Type 0
+Grounds m t n = (n ≡ NotWhole → prefix_fits (prefix_in m) ≡ false) × (n ≡ Router → bad_router m ≡ true) × (n ≡ TableFull → no_room m t ≡ true)
 
-grounds : (m : Manual) (t : Tables) (n : ℕ) → JustlyByHand m t n → Grounds m t n
-grounds m t _ (prefix_over e) = (λ p. e, λ p. absurd (omega arith), λ p. absurd (omega arith))
-grounds m t _ (router_bad e) = (λ p. absurd (omega arith), λ p. e, λ p. absurd (omega arith))
-grounds m t _ (table_full e) = (λ p. absurd (omega arith), λ p. absurd (omega arith), λ p. e)
+grounds : (m : Manual) (t : Tables) (n : Refusal) → JustlyByHand m t n → Grounds m t n
+grounds m t _ (prefix_over e) = (λ p. e, λ p. cc, λ p. cc)
+grounds m t _ (router_bad e) = (λ p. cc, λ p. e, λ p. cc)
+grounds m t _ (table_full e) = (λ p. cc, λ p. cc, λ p. e)
 
 abbrev sane : Manual
 sane = AddRoute 0 8 16777226
 
-sane_grounds : (number : ℕ) → Demand3 (rigid number) → Grounds sane empty_tables number
+sane_grounds : (reason : Refusal) → Demand3 (rigid reason) → Grounds sane empty_tables reason
 unfolding computing
-sane_grounds number d = grounds sane empty_tables number ((opened (rigid number) refl d (do_now (ByHand sane) ∷ [])).0.deeds number refl)
+sane_grounds reason d = grounds sane empty_tables reason ((opened (rigid reason) refl d (do_now (ByHand sane) ∷ [])).0.deeds reason refl)
 
-pub rigid_9_fails : Demand3 (rigid 9) → ⊥
+pub rigid_9_fails : Demand3 (rigid NotWhole) → ⊥
 unfolding computing
-rigid_9_fails d = false≢true (sym ((sane_grounds 9 d).0 refl))
+rigid_9_fails d = false≢true (sym ((sane_grounds NotWhole d).0 refl))
 
-pub rigid_10_fails : Demand3 (rigid 10) → ⊥
+pub rigid_10_fails : Demand3 (rigid Router) → ⊥
 unfolding computing
-rigid_10_fails d = false≢true ((sane_grounds 10 d).1 refl)
+rigid_10_fails d = false≢true ((sane_grounds Router d).1 refl)
 
-pub rigid_11_fails : Demand3 (rigid 11) → ⊥
+pub rigid_11_fails : Demand3 (rigid TableFull) → ⊥
 unfolding computing
-rigid_11_fails d = false≢true ((sane_grounds 11 d).2 refl)
+rigid_11_fails d = false≢true ((sane_grounds TableFull d).2 refl)

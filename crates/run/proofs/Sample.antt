@@ -1,5 +1,6 @@
 -- What examples of a run are made of: settings that creation takes, an OFFER and an ACK for a client of theirs, entries of a
 -- list. Such a run is computed: `computing` on an `unfolding` line opens all that it is computed by. Assumes nothing.
+use Rattle.std.proofs.Common.{Ok}
 use Prim.Native.Nat.{ℕ}
 use mathlib.Core.Path.{◌≡◌, refl}
 use mathlib.Core.Bool.{false}
@@ -29,7 +30,6 @@ use Rattle.tables.specs.Tables.{whole_addrs, whole_routes, whole_tables}
 use Rattle.tables.specs.Applied.{applied_addrs, applied_routes}
 use Rattle.tables.specs.Manual.{admitted, drop_address}
 use Rattle.tables.specs.declared.tables.Tables.{Tables}
-use Rattle.tables.specs.declared.outcome.Outcome.TheVariants.{Done}
 use Rattle.settings.specs.Settings.{refusal_of, lists_refusal, size_refusal, over_cap, list_of, maximum_of}
 use Rattle.lease.specs.Leases.{lease_of, whole_lease}
 use Rattle.client.specs.Clients.{fresh, created, lease_fits, whole_client, whole_all}
@@ -141,6 +141,6 @@ unfolding when◌then◌else◌ standard_waits before due earlier rest next_stat
     expired accepted_as lost_by plain offer ack_with lease_by
 computing = tt
 
-pub plain_created : created plain false ≡ record { client = fresh plain false; outcome = Done }
+pub plain_created : created plain false ≡ Ok (fresh plain false)
 unfolding computing
 plain_created = refl

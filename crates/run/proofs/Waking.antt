@@ -30,6 +30,7 @@ use Rattle.run.specs.Calls.{Post, Calls, Call, calls_with}
 use Rattle.run.specs.Demand3.{Entry, moment_after, CameTo, IfPolls, IfDoes, leaves, comes, adds, came_to, stepped, OnlyPolls, after, total, Quiet, Enough, NoneAt, Builds, Owed, Wakes}
 use Rattle.run.proofs.Polls.{enough_or_short, short_or_enough, Sends, sends_by}
 use Rattle.run.proofs.Sorted.{Sorted, polls, does, answers, sorted}
+use Rattle.reasons.specs.declared.refusal.Refusal.TheVariants.{ShortBuffer}
 
 -- before a moment, none is at it
 none_before : (k : Calls) (s : Settings) (n d u : ℕ) (p : Post) (es : List Entry) → u + total k s p es < d → NoneAt k s n d u p es
@@ -77,7 +78,7 @@ module _ (w : Waits) (z : InRange w) (c : Client) (tb : Tables) (g : Rand) (t d 
       by k (sending {m} {s} x' e go q a l) = (s, sends_by c tb g (moment m) s)
 
   -- polls before it, and polls at it that refuse, leave all as it is
-  module _ (n : ℕ) (refuse : (b : List ℕ) → (Enough n b → ⊥) → polled_by c tb g b (due_at d) ≡ refused_by c tb g b 8) where
+  module _ (n : ℕ) (refuse : (b : List ℕ) → (Enough n b → ⊥) → polled_by c tb g b (due_at d) ≡ refused_by c tb g b ShortBuffer) where
     abbrev left : Instant → PolledInto → Post
     left now r = record { client = r.polled.client; tables = r.polled.tables; rand = r.polled.rand; now = now }
 
@@ -88,7 +89,7 @@ module _ (w : Waits) (z : InRange w) (c : Client) (tb : Tables) (g : Rand) (t d 
         by (yes q) = ap (left (moment (wrap (t + v)))) (quiet_at v q b)
         by (no q) =
             let e : v ≡ d = omega arith in
-            let k : polled_by c tb g b (due_at v) ≡ refused_by c tb g b 8 = rw e (refuse b (f e)) in
+            let k : polled_by c tb g b (due_at v) ≡ refused_by c tb g b ShortBuffer = rw e (refuse b (f e)) in
             ap (left (moment (wrap (t + v)))) (poll_at v b ∙ k)
 
     abbrev NoneAtTime : ℕ → CameTo → Type 0

@@ -1,4 +1,5 @@
 -- Our calls meet demand 3. Assumes nothing.
+use Rattle.std.proofs.Common.{Option, None, Some, Ok, Result}
 use Prim.Native.Nat.{ℕ, ◌+◌, ◌-◌, ◌<◌}
 use mathlib.Core.Path.{◌≡◌, refl, sym, ap, ◌∙◌, subst, subst⁻¹}
 use mathlib.Core.Bool.{Bool, true, false, false≢true}
@@ -12,14 +13,10 @@ use Rattle.clock.specs.declared.rand.Rand.{Rand}
 use Rattle.clock.specs.declared.waits.Waits.{Waits}
 use Rattle.choice.proofs.Choices.{if_false}
 use Rattle.clock.proofs.MomentLaws.{plus_near, gap_near}
-use Rattle.octets.specs.declared.number.MaybeNumber.{MaybeNumber}
-use Rattle.octets.specs.declared.number.MaybeNumber.TheVariants.{None, Some}
 use Rattle.machine.specs.Decisions.{InRange}
 use Rattle.machine.proofs.Timers.{Timers, unset, Shows, init, Ahead, soonest_ahead, wake_at}
 use Rattle.tables.specs.Tables.{dhcp_addrs, dhcp_routes, whole_tables}
 use Rattle.tables.specs.declared.tables.Tables.{Tables}
-use Rattle.tables.specs.declared.outcome.Outcome.{Outcome}
-use Rattle.tables.specs.declared.outcome.Outcome.TheVariants.{Done, Refused}
 use Rattle.settings.specs.Settings.{refusal_of}
 use Rattle.lease.specs.Leases.{nothing}
 use Rattle.client.specs.Clients.{fresh, created_or, created, whole_all}
@@ -30,8 +27,6 @@ use Rattle.sending.specs.Sendings.{endpoints_of}
 use Rattle.settings.specs.declared.settings.Settings.{Settings}
 use Rattle.client.specs.declared.client.Client.{Client}
 use Rattle.client.specs.declared.poll.PollAnswer.{PollAnswer}
-use Rattle.client.specs.declared.poll.PollOutcome.{PollOutcome}
-use Rattle.client.specs.declared.poll.PollOutcome.TheVariants as poll
 use Rattle.client.proofs.Wholes.{created_whole, all_whole}
 use Rattle.client.proofs.Effects.{gives}
 use Rattle.client.proofs.Polling.{moved_whole}
@@ -47,6 +42,7 @@ use Rattle.run.proofs.Sorted.{Sorted, polls, does, answers, sorted}
 use Rattle.run.proofs.Lawful.{Sound}
 use Rattle.run.proofs.Deeds.{lawful}
 use Rattle.run.proofs.Open.{open_from}
+use Rattle.reasons.specs.declared.refusal.Refusal.{Refusal}
 
 -- AFTER A POLL THAT WAS NOT REFUSED, at t
 record Rested (t : ℕ) (c : Client) (tb : Tables) (a : PollAnswer) : Type 0 where
@@ -63,7 +59,7 @@ built_wake (y ∷ ys) ends out m = refl
 module _ (w : Waits) (z : InRange w) where
   module _ (s : Settings) (gp : Since) (t : ℕ) (c : Client) (tb : Tables) (g : Rand) (h : History) (lost : Lost) (i : Inv s gp t c tb h lost) (b : List ℕ) where
     abbrev Rests : PolledInto → Type 0
-    Rests r = (a : PollAnswer) → r.polled.outcome ≡ poll.Answered a → Rested t r.polled.client r.polled.tables a
+    Rests r = (a : PollAnswer) → r.polled.outcome ≡ Ok a → Rested t r.polled.client r.polled.tables a
 
     rested_by : {x : Timers} {r : PolledInto} → Polls-to c tb g b t x r → Shows x c.session.state → Rests r
     rested_by refuses sh a e = absurd (false≢true (ap is_answered e))
@@ -115,7 +111,7 @@ module _ (w : Waits) (z : InRange w) where
         (noted_all (tells x) h) (lost_all r.post.tables (tells x) h r.lost)
 
     abbrev RestsIf : CameTo → Type 0
-    RestsIf x = IfPolls (λ b left. (a : PollAnswer) → left.polled.outcome ≡ poll.Answered a → Rested t left.polled.client left.polled.tables a) x
+    RestsIf x = IfPolls (λ b left. (a : PollAnswer) → left.polled.outcome ≡ Ok a → Rested t left.polled.client left.polled.tables a) x
 
     Shown : Instant → CameTo → Type 0
     Shown now x = in_time (is_polled (tells x)) gp → Holds now x × RestsIf x
@@ -124,7 +120,7 @@ module _ (w : Waits) (z : InRange w) where
     unfolding Shown
     shown i (polls b) = λ l. (
       poll_step s gp t r.post.client r.post.tables r.post.rand h r.lost i w z b l,
-      λ a e. rests s gp t r.post.client r.post.tables r.post.rand h r.lost i b (subst (λ (o : PollOutcome). in_time (is_polled (poll_tells o)) gp) e l) a e,
+      λ a e. rests s gp t r.post.client r.post.tables r.post.rand h r.lost i b (subst (λ (o : Result PollAnswer Refusal). in_time (is_polled (poll_tells o)) gp) e l) a e,
     )
     shown i (does d) = λ l. ((lawful w s d).steps r.post gp t h r.lost i, tt)
     shown i answers = λ l. (i, tt)
@@ -157,7 +153,7 @@ module _ (w : Waits) (z : InRange w) where
 
       abbrev PollsWell : CameTo → Type 0
       PollsWell x =
-          IfPolls (λ b left. (a : PollAnswer) → left.polled.outcome ≡ poll.Answered a → AfterPoll (calls_with w) s (next (calls_with w) s r e) a) x
+          IfPolls (λ b left. (a : PollAnswer) → left.polled.outcome ≡ Ok a → AfterPoll (calls_with w) s (next (calls_with w) s r e) a) x
 
       after_polls : (x : CameTo) → came_to (calls_with w) s r.post e ≡ x → RestsIf s r (later y gp) on (older y r.history) x → PollsWell x
       unfolding inv_next
@@ -185,21 +181,14 @@ module _ (w : Waits) (z : InRange w) where
   owed_from s (e ∷ es) r gp v h = (after_entry s r gp v e h.0, owed_from s es (next (calls_with w) s r e) _ (inv_next s r gp v e h.0) h.1)
 
 -- A FRESH CLIENT
-abbrev is_done : Outcome → Bool
-is_done Done = true
-is_done (Refused n) = false
-
-created_none : (s : Settings) (ignoring : Bool) → (created s ignoring).outcome ≡ Done → refusal_of s ≡ None
+-- creation gives one, with settings that 1 to 7 don't refuse
+created_fresh : (s : Settings) (ignoring : Bool) {c : Client} → created s ignoring ≡ Ok c → c ≡ fresh s ignoring
 unfolding created
-created_none s ignoring = by (refusal_of s)
+created_fresh s ignoring = by (refusal_of s)
   where
-    by : (m : MaybeNumber) → (created_or m s ignoring).outcome ≡ Done → m ≡ None
-    by None e = refl
-    by (Some n) e = absurd (false≢true (ap is_done e))
-
-created_fresh : (s : Settings) (ignoring : Bool) → (created s ignoring).outcome ≡ Done → (created s ignoring).client ≡ fresh s ignoring
-unfolding created
-created_fresh s ignoring e = ap (λ (m : MaybeNumber). (created_or m s ignoring).client) (created_none s ignoring e)
+    by : (m : Option Refusal) {c : Client} → created_or m s ignoring ≡ Ok c → c ≡ fresh s ignoring
+    by None e = cc
+    by (Some reason) e = cc
 
 gives_nothing : (s : Settings) (ignoring : Bool) → gives (fresh s ignoring) ≡ nothing
 unfolding held_by
@@ -223,20 +212,20 @@ fresh_inv w z s ignoring t a r rand m =
           };
     }
 
-pub owed : (w : Waits) → InRange w → (s : Settings) (ignoring : Bool) → (created s ignoring).outcome ≡ Done
+pub owed : (w : Waits) → InRange w → (s : Settings) (ignoring : Bool) (c : Client) → created s ignoring ≡ Ok c
     → (t : Tables) → dhcp_addrs t ≡ [] → dhcp_routes t ≡ [] → (rand : Rand) (m : ℕ) (es : List Entry)
-    → Timely (calls_with w) s never (start (created s ignoring).client t rand m) es
-    → Throughout (calls_with w) s (After (calls_with w) s) (start (created s ignoring).client t rand m) es
-owed w z s ignoring e t a r rand m es h =
-    owed_from w z s es (start (created s ignoring).client t rand m) never
-    (subst⁻¹ (λ (c : Client). RunInv w z s never (start c t rand m)) (created_fresh s ignoring e) (fresh_inv w z s ignoring t a r rand m)) h
+    → Timely (calls_with w) s never (start c t rand m) es
+    → Throughout (calls_with w) s (After (calls_with w) s) (start c t rand m) es
+owed w z s ignoring c e t a r rand m es h =
+    owed_from w z s es (start c t rand m) never
+    (subst⁻¹ (λ (x : Client). RunInv w z s never (start x t rand m)) (created_fresh s ignoring e) (fresh_inv w z s ignoring t a r rand m)) h
 
-fresh_sound : (s : Settings) (ignoring : Bool) → (created s ignoring).outcome ≡ Done → (t : Tables) → whole_tables t ≡ true → (rand : Rand) (m : ℕ)
-    → Sound s (start (created s ignoring).client t rand m).post
-fresh_sound s ignoring e t h rand m =
+fresh_sound : (s : Settings) (ignoring : Bool) {c : Client} → created s ignoring ≡ Ok c → (t : Tables) → whole_tables t ≡ true → (rand : Rand) (m : ℕ)
+    → Sound s (start c t rand m).post
+fresh_sound s ignoring {c} e t h rand m =
     record {
-      whole = all_whole (created s ignoring).client t (created_whole s ignoring (created_none s ignoring e)) h;
-      settings_are = ap (λ (c : Client). c.settings) (created_fresh s ignoring e);
+      whole = all_whole c t (created_whole s ignoring e) h;
+      settings_are = ap (λ (x : Client). x.settings) (created_fresh s ignoring e);
     }
 
 -- DEMAND 3, with the waits as variables within request (g)'s ranges, and with document 01's own.
@@ -244,7 +233,7 @@ pub demand3_with : (w : Waits) → InRange w → Demand3 (calls_with w)
 demand3_with w z =
     record {
       owed = owed w z;
-      no_lockout = λ s ignoring e t h rand m es. open_from w s es (start (created s ignoring).client t rand m) (fresh_sound s ignoring e t h rand m);
+      no_lockout = λ s ignoring c e t h rand m es. open_from w s es (start c t rand m) (fresh_sound s ignoring e t h rand m);
     }
 
 standard_in_range : InRange standard_waits

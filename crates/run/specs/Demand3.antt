@@ -11,16 +11,16 @@
 --
 -- A call polls, does a deed or merely answers: `CameTo`. The claim speaks of these three and of no call by name; `done` and
 -- `comes` say what each call is.
-use Rattle.std.specs.Prelude.{ℕ, ◌+◌, ◌-◌, ◌^◌, ◌≤◌, ◌<◌, ◌≡◌, Bool, true, false, not, List, [], ◌∷◌, length, leb, eqb}
+use Rattle.std.specs.Prelude.{ℕ, ◌+◌, ◌-◌, ◌^◌, ◌≤◌, ◌<◌, ◌≡◌, Bool, true, false, not, List, [], ◌∷◌, length, leb, eqb, Option, None, Some, Result, Ok, Err, ⊤}
 use Rattle.choice.specs.Choice.{when◌then◌else◌}
 use Rattle.clock.specs.Moments.{wrap, plus, gap, moment}
 use Rattle.clock.specs.Clocks.{day}
 use Rattle.clock.specs.declared.instant.Instant.{Instant}
 use Rattle.clock.specs.declared.rand.Rand.{Rand}
+use Rattle.reasons.specs.declared.refusal.Refusal.{Refusal}
+use Rattle.reasons.specs.declared.refusal.Refusal.TheVariants.{ShortBuffer, NotWhole, Router, TableFull}
 use Rattle.octets.specs.Addresses.{unicast, prefix_len}
 use Rattle.octets.specs.Codes.{ack, nak, mask_code}
-use Rattle.octets.specs.declared.number.MaybeNumber.{MaybeNumber}
-use Rattle.octets.specs.declared.number.MaybeNumber.TheVariants.{None, Some}
 use Rattle.wire.specs.Options.{option_data}
 use Rattle.wire.specs.Readings.{your_address, message_type, address_of, router}
 use Rattle.machine.specs.States.{has_lease}
@@ -28,11 +28,8 @@ use Rattle.tables.specs.Entries.{full}
 use Rattle.tables.specs.Tables.{addrs_of, routes_of, dhcp_addrs, other_addrs, dhcp_routes, other_routes, prefix_fits, whole_tables}
 use Rattle.tables.specs.Applied.{same_cidr, same_router, leased_addrs, leased_routes}
 use Rattle.tables.specs.declared.tables.Tables.{Tables}
-use Rattle.tables.specs.declared.apply.MaybeCidr.{MaybeCidr}
-use Rattle.tables.specs.declared.apply.MaybeCidr.TheVariants.{Absent, Cidr}
+use Rattle.tables.specs.declared.apply.Cidr.{Cidr}
 use Rattle.tables.specs.declared.apply.Installed.{Installed}
-use Rattle.tables.specs.declared.outcome.Outcome.{Outcome}
-use Rattle.tables.specs.declared.outcome.Outcome.TheVariants as outcome
 use Rattle.tables.specs.declared.manual.Changed.{Changed}
 use Rattle.settings.specs.Settings.{maximum_of}
 use Rattle.lease.specs.Leases.{nothing}
@@ -41,28 +38,23 @@ use Rattle.client.specs.Polls.{PolledInto}
 use Rattle.settings.specs.declared.settings.Settings.{Settings}
 use Rattle.client.specs.declared.client.Client.{Client}
 use Rattle.client.specs.declared.poll.PollAnswer.{PollAnswer}
-use Rattle.client.specs.declared.poll.PollOutcome.{PollOutcome}
-use Rattle.client.specs.declared.poll.PollOutcome.TheVariants as poll
-use Rattle.client.specs.declared.process.ReplyOutcome.{ReplyOutcome}
-use Rattle.client.specs.declared.process.ReplyOutcome.TheVariants as reply
-use Rattle.client.specs.declared.reset.ResetOutcome.{ResetOutcome}
-use Rattle.client.specs.declared.reset.ResetOutcome.TheVariants as reset
-use Rattle.client.specs.declared.process.Processed.{Processed}
-use Rattle.client.specs.declared.reset.WasReset.{WasReset}
+use Rattle.client.specs.Outcomes.{Processed, WasReset}
 use Rattle.run.specs.Calls.{Post, Manual, AddAddress, DropAddress, AddRoute, DropRoute, Deed, Reply, Reset, ByHand, Call, Poll, Do, LookUp, Calls}
+use Rattle.client.specs.declared.process.NotTaken.{NotTaken}
+use Rattle.client.specs.declared.process.NotTaken.TheVariants.{PassedOver, Refused}
 
 -- EVENTS, of which the history is told
 
 -- What an ACK gives, read from its bytes: address and prefix; the router of the default route, or none.
-abbrev pub prefix_by : MaybeNumber → MaybeNumber
+abbrev pub prefix_by : Option ℕ → Option ℕ
 prefix_by None = None
 prefix_by (Some mask) = prefix_len mask
 
-abbrev pub cidr_of : MaybeNumber → MaybeNumber → MaybeCidr
-cidr_of None None = Absent
-cidr_of None (Some prefix) = Absent
-cidr_of (Some address) None = Absent
-cidr_of (Some address) (Some prefix) = Cidr address prefix
+abbrev pub cidr_of : Option ℕ → Option ℕ → Option Cidr
+cidr_of None None = None
+cidr_of None (Some prefix) = None
+cidr_of (Some address) None = None
+cidr_of (Some address) (Some prefix) = Some (record { address = address; prefix = prefix })
 
 abbrev pub given_by : List ℕ → Installed
 given_by bytes = record {
@@ -84,24 +76,23 @@ accepted_as s bytes kind =
     else when eqb kind nak then Cleared ∷ []
     else []
 
-abbrev pub accepted : Settings → List ℕ → MaybeNumber → List Event
+abbrev pub accepted : Settings → List ℕ → Option ℕ → List Event
 accepted s bytes None = []
 accepted s bytes (Some kind) = accepted_as s bytes kind
 
 -- "The history is kept from creation's settings and the entries' arguments, steps and answers alone." These three
 -- take nothing else: they say what it is told of a poll, of a reply, of a reset. Of the rest it is told nothing.
-abbrev pub poll_tells : PollOutcome → List Event
-poll_tells (poll.Answered answer) = Polled ∷ []
-poll_tells (poll.Refused number) = []
+abbrev pub poll_tells : Result PollAnswer Refusal → List Event
+poll_tells (Ok answer) = Polled ∷ []
+poll_tells (Err reason) = []
 
-abbrev pub reply_tells : Settings → List ℕ → ReplyOutcome → List Event
-reply_tells s bytes (reply.Taken purge) = accepted s bytes (message_type bytes)
-reply_tells s bytes (reply.PassedOver number) = []
-reply_tells s bytes (reply.Refused number) = []
+abbrev pub reply_tells : Settings → List ℕ → Result Bool NotTaken → List Event
+reply_tells s bytes (Ok purge) = accepted s bytes (message_type bytes)
+reply_tells s bytes (Err reason) = []
 
-abbrev pub reset_tells : ResetOutcome → List Event
-reset_tells (reset.Done purge) = Cleared ∷ []
-reset_tells (reset.Refused number) = []
+abbrev pub reset_tells : Result Bool Refusal → List Event
+reset_tells (Ok purge) = Cleared ∷ []
+reset_tells (Err reason) = []
 
 -- DEEDS: what one leaves of client, tables and generator, what it tells the history, and its number where it is refused.
 pub record Done : Type 0 where
@@ -109,12 +100,12 @@ pub record Done : Type 0 where
   pub tables : Tables
   pub rand : Rand
   pub tells : List Event
-  pub refused : MaybeNumber
+  pub refused : Option Refusal
 
-abbrev pub reply_refused : ReplyOutcome → MaybeNumber
-reply_refused (reply.Taken purge) = None
-reply_refused (reply.PassedOver number) = None
-reply_refused (reply.Refused number) = Some number
+abbrev pub reply_refused : Result Bool NotTaken → Option Refusal
+reply_refused (Ok purge) = None
+reply_refused (Err (PassedOver why)) = None
+reply_refused (Err (Refused reason)) = Some reason
 
 abbrev pub by_reply : Settings → List ℕ → Rand → Processed → Done
 by_reply s bytes rand r = record {
@@ -125,9 +116,9 @@ by_reply s bytes rand r = record {
   refused = reply_refused r.outcome;
 }
 
-abbrev pub reset_refused : ResetOutcome → MaybeNumber
-reset_refused (reset.Done purge) = None
-reset_refused (reset.Refused number) = Some number
+abbrev pub reset_refused : Result Bool Refusal → Option Refusal
+reset_refused (Ok purge) = None
+reset_refused (Err reason) = Some reason
 
 abbrev pub by_reset : Rand → WasReset → Done
 by_reset rand r = record {
@@ -138,9 +129,9 @@ by_reset rand r = record {
   refused = reset_refused r.outcome;
 }
 
-abbrev pub hand_refused : Outcome → MaybeNumber
-hand_refused outcome.Done = None
-hand_refused (outcome.Refused number) = Some number
+abbrev pub hand_refused : Result ⊤ Refusal → Option Refusal
+hand_refused (Ok done) = None
+hand_refused (Err reason) = Some reason
 
 abbrev pub by_hand : Client → Rand → Changed → Done
 by_hand c rand r = record { client = c; tables = r.tables; rand = rand; tells = []; refused = hand_refused r.outcome }
@@ -340,7 +331,7 @@ pub record Tabled (r : Run) : Type 0 where
 -- length above 0." Nor is one refused.
 pub record Quiet (p : Post) (lent : List ℕ) (r : PolledInto) : Type 0 where
   pub answer : PollAnswer
-  pub answered : r.polled.outcome ≡ poll.Answered answer
+  pub answered : r.polled.outcome ≡ Ok answer
   pub length : answer.length ≡ 0
   pub client : r.polled.client ≡ p.client
   pub tables : r.polled.tables ≡ p.tables
@@ -358,7 +349,7 @@ length_in (x ∷ xs) n = n
 
 pub record Builds (n : ℕ) (buffer : List ℕ) (r : PolledInto) : Type 0 where
   pub answer : PollAnswer
-  pub answered : r.polled.outcome ≡ poll.Answered answer
+  pub answered : r.polled.outcome ≡ Ok answer
   pub length : answer.length ≡ length_in buffer n
 
 module _ (k : Calls) (s : Settings) where
@@ -412,7 +403,7 @@ module _ (k : Calls) (s : Settings) where
   pub record After (r : Run) (e : Entry) : Type 0 where
     pub tables : Tabled (next k s r e)
     pub polls : IfPolls
-        (λ buffer left. (answer : PollAnswer) → left.polled.outcome ≡ poll.Answered answer → AfterPoll (next k s r e) answer)
+        (λ buffer left. (answer : PollAnswer) → left.polled.outcome ≡ Ok answer → AfterPoll (next k s r e) answer)
         (came_to k s r.post e)
 
 -- NO LOCK-OUT, which is ours: demand 1 has numbered refusals, and a client that refused all would meet the above. From whole
@@ -437,21 +428,21 @@ no_room (DropAddress address prefix) t = false
 no_room (AddRoute network prefix router) t = full (routes_of t.routes)
 no_room (DropRoute network prefix router) t = false
 
-pub data JustlyByHand (m : Manual) (t : Tables) : ℕ → Type 0 where
-  prefix_over : prefix_fits (prefix_in m) ≡ false → JustlyByHand m t 9
-  router_bad : bad_router m ≡ true → JustlyByHand m t 10
-  table_full : no_room m t ≡ true → JustlyByHand m t 11
+pub data JustlyByHand (m : Manual) (t : Tables) : Refusal → Type 0 where
+  prefix_over : prefix_fits (prefix_in m) ≡ false → JustlyByHand m t NotWhole
+  router_bad : bad_router m ≡ true → JustlyByHand m t Router
+  table_full : no_room m t ≡ true → JustlyByHand m t TableFull
 
 module _ (k : Calls) (s : Settings) where
   -- What may refuse a deed, and by which number.
-  abbrev pub Justly : Post → Instant → Deed → ℕ → Type 0
-  Justly p now (Reply source bytes) number = ⊥
-  Justly p now Reset number = ⊥
-  Justly p now (ByHand m) number = JustlyByHand m p.tables number
+  abbrev pub Justly : Post → Instant → Deed → Refusal → Type 0
+  Justly p now (Reply source bytes) reason = ⊥
+  Justly p now Reset reason = ⊥
+  Justly p now (ByHand m) reason = JustlyByHand m p.tables reason
 
   -- What may refuse a poll.
-  pub record TooShort (p : Post) (now : Instant) (buffer : List ℕ) (number : ℕ) : Type 0 where
-    pub by_8 : number ≡ 8
+  pub record TooShort (p : Post) (now : Instant) (buffer : List ℕ) (reason : Refusal) : Type 0 where
+    pub by_8 : reason ≡ ShortBuffer
     pub lent : 0 < length buffer
     pub n : ℕ
     pub short : length buffer < n
@@ -460,20 +451,20 @@ module _ (k : Calls) (s : Settings) where
 
   pub record Open (r : Run) (e : Entry) : Type 0 where
     pub polls : IfPolls
-        (λ buffer left. (number : ℕ) → left.polled.outcome ≡ poll.Refused number
-        → TooShort r.post (moment_after r.post (adds k s r.post e)) buffer number)
+        (λ buffer left. (reason : Refusal) → left.polled.outcome ≡ Err reason
+        → TooShort r.post (moment_after r.post (adds k s r.post e)) buffer reason)
         (came_to k s r.post e)
     pub deeds : IfDoes
-        (λ deed left. (number : ℕ) → left.refused ≡ Some number → Justly r.post (moment_after r.post (adds k s r.post e)) deed number)
+        (λ deed left. (reason : Refusal) → left.refused ≡ Some reason → Justly r.post (moment_after r.post (adds k s r.post e)) deed reason)
         (came_to k s r.post e)
 
 -- THE CLAIM, of a set of calls: whatever the settings that creation takes, the tables without DHCP entries, the generator, the
 -- moment, and the list within its premise.
 pub record Demand3 (k : Calls) : Type 0 where
-  pub owed : (s : Settings) (ignoring : Bool) → (k.create s ignoring).outcome ≡ outcome.Done
+  pub owed : (s : Settings) (ignoring : Bool) (c : Client) → k.create s ignoring ≡ Ok c
       → (t : Tables) → dhcp_addrs t ≡ [] → dhcp_routes t ≡ [] → (rand : Rand) (m : ℕ) (es : List Entry)
-      → Timely k s never (start (k.create s ignoring).client t rand m) es
-      → Throughout k s (After k s) (start (k.create s ignoring).client t rand m) es
-  pub no_lockout : (s : Settings) (ignoring : Bool) → (k.create s ignoring).outcome ≡ outcome.Done
+      → Timely k s never (start c t rand m) es
+      → Throughout k s (After k s) (start c t rand m) es
+  pub no_lockout : (s : Settings) (ignoring : Bool) (c : Client) → k.create s ignoring ≡ Ok c
       → (t : Tables) → whole_tables t ≡ true → (rand : Rand) (m : ℕ) (es : List Entry)
-      → Throughout k s (Open k s) (start (k.create s ignoring).client t rand m) es
+      → Throughout k s (Open k s) (start c t rand m) es

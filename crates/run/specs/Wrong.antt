@@ -1,7 +1,9 @@
 -- Wrong clients, each ours with one call changed in one respect. None meets `Demand3` (proofs/Refuted.antt), and each field of
 -- it has one that fails by it (proofs/Fields.antt), so that nobody need wonder whether the claim says enough.
-use Rattle.std.specs.Prelude.{ℕ, ◌+◌, ◌-◌, ◌^◌, Bool, true, false, ◌&&◌, List, [], ◌∷◌, eqb, leb}
+use Rattle.std.specs.Prelude.{ℕ, ◌+◌, ◌-◌, ◌^◌, Bool, true, false, ◌&&◌, List, [], ◌∷◌, eqb, leb, Result, Ok, Err}
 use Rattle.choice.specs.Choice.{when◌then◌else◌}
+use Rattle.reasons.specs.declared.refusal.Refusal.{Refusal}
+use Rattle.reasons.specs.declared.refusal.Refusal.TheVariants.{LongestMessage, ShortBuffer, NotWhole}
 use Rattle.clock.specs.Moments.{plus, earlier, moment}
 use Rattle.clock.specs.Clocks.{day}
 use Rattle.clock.specs.declared.instant.Instant.{Instant}
@@ -14,22 +16,17 @@ use Rattle.tables.specs.Applied.{applied}
 use Rattle.tables.specs.Tables.{routes_of, route_table}
 use Rattle.tables.specs.declared.route.Route.{Route}
 use Rattle.tables.specs.declared.tables.Tables.{Tables}
-use Rattle.tables.specs.declared.outcome.Outcome.TheVariants as outcome
 use Rattle.tables.specs.declared.manual.Changed.{Changed}
 use Rattle.lease.specs.Leases.{installed, nothing}
 use Rattle.client.specs.Taken.{holds, processed}
 use Rattle.client.specs.Polls.{PolledInto, refused_by, passed_by, too_short, polled}
 use Rattle.client.specs.declared.client.Client.{Client}
-use Rattle.client.specs.declared.poll.PollOutcome.{PollOutcome}
-use Rattle.client.specs.declared.poll.PollOutcome.TheVariants.{Answered, Refused}
-use Rattle.client.specs.declared.process.Processed.{Processed}
-use Rattle.client.specs.declared.process.ReplyOutcome.{ReplyOutcome}
-use Rattle.client.specs.declared.process.ReplyOutcome.TheVariants.{Taken, PassedOver}
-use Rattle.client.specs.declared.process.ReplyOutcome.TheVariants as reply
-use Rattle.client.specs.declared.reset.ResetOutcome.TheVariants as reset
-use Rattle.client.specs.declared.reset.WasReset.{WasReset}
+use Rattle.client.specs.Outcomes.{Processed, WasReset}
+use Rattle.client.specs.declared.poll.PollAnswer.{PollAnswer}
 use Rattle.client.specs.Resets.{cleared}
 use Rattle.run.specs.Calls.{Manual, Calls, wake_of, calls}
+use Rattle.client.specs.declared.process.NotTaken.{NotTaken}
+use Rattle.client.specs.declared.process.NotTaken.TheVariants.{PassedOver, Refused}
 
 -- Ours with one call changed: another poll, another way to take replies, another reset, other manual calls.
 abbrev pub of : (Client → Tables → Rand → Instant → List ℕ → PolledInto) → (Client → Tables → ℕ → List ℕ → Instant → Processed) → (Client → Tables → WasReset)
@@ -46,16 +43,16 @@ abbrev our_poll : Client → Tables → Rand → Instant → List ℕ → Polled
 our_poll = polled
 
 -- What a poll leaves, but for its answer.
-abbrev pub answering : (PollOutcome → PollOutcome) → PolledInto → PolledInto
+abbrev pub answering : (Result PollAnswer Refusal → Result PollAnswer Refusal) → PolledInto → PolledInto
 answering change r = record {
   polled = record { client = r.polled.client; tables = r.polled.tables; rand = r.polled.rand; outcome = change r.polled.outcome };
   buffer = r.buffer;
 }
 
-abbrev pub outcome_at : Instant → PollOutcome → PollOutcome
-outcome_at wake (Answered a) =
-    Answered (record { length = a.length; source = a.source; destination = a.destination; wake = wake; purge = a.purge })
-outcome_at wake (Refused number) = Refused number
+abbrev pub outcome_at : Instant → Result PollAnswer Refusal → Result PollAnswer Refusal
+outcome_at wake (Ok a) =
+    Ok (record { length = a.length; source = a.source; destination = a.destination; wake = wake; purge = a.purge })
+outcome_at wake (Err reason) = Err reason
 
 abbrev pub waking_at : Instant → PolledInto → PolledInto
 waking_at wake = answering (outcome_at wake)
@@ -67,7 +64,7 @@ daily = polling (λ c t g now buffer. waking_at (moment (plus now.millis day)) (
 -- Reports 8 before measuring the message: by the longest that there could be, and whether one is due or not.
 unfoldable pub unmeasured : Client → Tables → Rand → Instant → List ℕ → PolledInto
 unmeasured c t g now buffer =
-    when too_short buffer (c.settings.mtu - 20) then refused_by c t g buffer 8
+    when too_short buffer (c.settings.mtu - 20) then refused_by c t g buffer ShortBuffer
     else our_poll c t g now buffer
 
 abbrev pub hasty : Calls
@@ -75,7 +72,7 @@ hasty = polling unmeasured
 
 -- Refuses every poll.
 abbrev pub refusing : Calls
-refusing = polling (λ c t g now buffer. refused_by c t g buffer 8)
+refusing = polling (λ c t g now buffer. refused_by c t g buffer ShortBuffer)
 
 -- Never wakes for expiry: in Renewing, the next Request is all that it wakes for.
 abbrev pub without_expiry : ClientState → Instant → Instant → Instant
@@ -99,10 +96,9 @@ entering_again r t = record {
   outcome = r.outcome;
 }
 
-abbrev pub is_taken : ReplyOutcome → Bool
-is_taken (Taken purge) = true
-is_taken (PassedOver number) = false
-is_taken (reply.Refused number) = false
+abbrev pub is_taken : Result Bool NotTaken → Bool
+is_taken (Ok purge) = true
+is_taken (Err reason) = false
 
 abbrev pub leaves_held : Client → Processed → Bool
 leaves_held c r = is_taken r.outcome && (has_lease r.client.session.state && holds c.session.state c.lease r.client.lease)
@@ -129,10 +125,10 @@ abbrev pub clinging : Calls
 clinging = polling keeping
 
 -- Loses its lease on a reply that it passes over.
-abbrev pub lose : Client → Tables → Processed → ReplyOutcome → Processed
-lose c t r (Taken purge) = r
-lose c t r (PassedOver number) = record { client = (cleared c t).client; tables = (cleared c t).tables; outcome = PassedOver number }
-lose c t r (reply.Refused number) = r
+abbrev pub lose : Client → Tables → Processed → Result Bool NotTaken → Processed
+lose c t r (Ok purge) = r
+lose c t r (Err (PassedOver why)) = record { client = (cleared c t).client; tables = (cleared c t).tables; outcome = Err (PassedOver why) }
+lose c t r (Err (Refused reason)) = r
 
 abbrev pub losing : Calls
 losing = taking (λ c t source bytes now. lose c t (processed c t source bytes now) (processed c t source bytes now).outcome)
@@ -172,12 +168,12 @@ abbrev pub awaiting : Calls
 awaiting = polling awaits
 
 -- Says 8 by the longest message that there could be, when one is due.
-unfoldable pub hurry : Client → Tables → Rand → List ℕ → PolledInto → PollOutcome → PolledInto
-hurry c t g b r (Answered a) =
+unfoldable pub hurry : Client → Tables → Rand → List ℕ → PolledInto → Result PollAnswer Refusal → PolledInto
+hurry c t g b r (Ok a) =
     when eqb a.length 0 then r
-    else when too_short b (c.settings.mtu - 20) then refused_by c t g b 8
+    else when too_short b (c.settings.mtu - 20) then refused_by c t g b ShortBuffer
     else r
-hurry c t g b r (Refused number) = r
+hurry c t g b r (Err reason) = r
 
 abbrev pub hurrying : Calls
 hurrying = polling (λ c t g now b. hurry c t g b (our_poll c t g now b) (our_poll c t g now b).polled.outcome)
@@ -214,18 +210,18 @@ unwrapped = polling (λ c t g now b.
     waking_at (moment (smaller (plus now.millis day) (wake_of (our_poll c t g now b).polled.outcome).millis)) (our_poll c t g now b))
 
 -- Answers a length where it builds nothing.
-abbrev pub boast : PollOutcome → PollOutcome
-boast (Answered a) =
-    Answered (record { length = a.length + 1; source = a.source; destination = a.destination; wake = a.wake; purge = a.purge })
-boast (Refused number) = Refused number
+abbrev pub boast : Result PollAnswer Refusal → Result PollAnswer Refusal
+boast (Ok a) =
+    Ok (record { length = a.length + 1; source = a.source; destination = a.destination; wake = a.wake; purge = a.purge })
+boast (Err reason) = Err reason
 
 abbrev pub boasting : Calls
 boasting = polling (λ c t g now b. answering boast (our_poll c t g now b))
 
 -- Refuses by 7 what ours refuses by 8.
-abbrev pub misnumber : PollOutcome → PollOutcome
-misnumber (Answered a) = Answered a
-misnumber (Refused number) = Refused 7
+abbrev pub misnumber : Result PollAnswer Refusal → Result PollAnswer Refusal
+misnumber (Ok a) = Ok a
+misnumber (Err reason) = Err LongestMessage
 
 abbrev pub misnumbering : Calls
 misnumbering = polling (λ c t g now b. answering misnumber (our_poll c t g now b))
@@ -233,17 +229,17 @@ misnumbering = polling (λ c t g now b. answering misnumber (our_poll c t g now 
 -- Refuses by 8 every buffer that is not empty.
 abbrev pub muzzle : Client → Tables → Rand → Instant → List ℕ → PolledInto
 muzzle c t g now [] = our_poll c t g now []
-muzzle c t g now (x ∷ xs) = refused_by c t g (x ∷ xs) 8
+muzzle c t g now (x ∷ xs) = refused_by c t g (x ∷ xs) ShortBuffer
 
 abbrev pub muzzled : Calls
 muzzled = polling muzzle
 
--- Refuses every reply and every reset by 9, or every manual call by a number.
+-- Refuses every reply and every reset by 9, or every manual call for a reason.
 abbrev pub deaf : Calls
-deaf = taking (λ c t source bytes now. record { client = c; tables = t; outcome = reply.Refused 9 })
+deaf = taking (λ c t source bytes now. record { client = c; tables = t; outcome = Err (Refused NotWhole) })
 
 abbrev pub stubborn : Calls
-stubborn = of calls.poll calls.process (λ c t. record { client = c; tables = t; outcome = reset.Refused 9 }) calls.by_hand
+stubborn = of calls.poll calls.process (λ c t. record { client = c; tables = t; outcome = Err NotWhole }) calls.by_hand
 
-abbrev pub rigid : ℕ → Calls
-rigid number = of calls.poll calls.process calls.reset (λ m t. record { tables = t; outcome = outcome.Refused number })
+abbrev pub rigid : Refusal → Calls
+rigid reason = of calls.poll calls.process calls.reset (λ m t. record { tables = t; outcome = Err reason })

@@ -1,4 +1,5 @@
 -- A message that is due: its id, its length, and what its writer answers. Assumes nothing.
+use Rattle.std.proofs.Common.{Option, None, Some, Ok, Err}
 use Prim.Native.Nat.{ℕ, ◌+◌, ◌-◌, ◌≤◌, ◌<◌}
 use mathlib.Core.Path.{◌≡◌, refl, ap, ◌∙◌}
 use mathlib.Core.Bool.{true, false}
@@ -11,11 +12,9 @@ use Rattle.clock.specs.Generator.{drawn32}
 use Rattle.clock.specs.declared.rand.Rand.{Rand}
 use Rattle.choice.proofs.Choices.{if_false}
 use Rattle.octets.specs.Codes.{request, discover}
-use Rattle.octets.specs.declared.number.MaybeNumber.{MaybeNumber}
-use Rattle.octets.specs.declared.number.MaybeNumber.TheVariants.{None, Some}
 use Rattle.message.specs.Messages.{message, address_option}
 use Rattle.message.specs.Written.{fitted, leaves, written, buffer_after}
-use Rattle.message.specs.declared.message.Answer.TheVariants.{Length, Refused}
+use Rattle.reasons.specs.declared.refusal.Refusal.TheVariants.{ShortBuffer}
 use Rattle.message.proofs.Messages.{address_most}
 use Rattle.message.proofs.Datagrams.{datagram_length}
 use Rattle.machine.specs.declared.decide.Sending.{Sending}
@@ -43,7 +42,7 @@ unfolding left_in wrote datagram_for buffer_after
 left_by_lem settings lease id s buffer = refl
 
 -- no message is longer than the longest
-module _ (s : Settings) (kind id client : ℕ) (requested server : MaybeNumber) (name list extra : List ℕ) where
+module _ (s : Settings) (kind id client : ℕ) (requested server : Option ℕ) (name : List ℕ) (list : Option (List ℕ)) (extra : List ℕ) where
   below_longest : length (message (message_of s kind id client requested server) name list extra) ≤ length (message (longest s) name list extra)
   unfolding message address_option
   below_longest = simp length-append (omega (arith, address_most 50 requested, address_most 54 server))
@@ -72,15 +71,10 @@ module _ (settings : Settings) (h : refusal_of settings ≡ None) (lease : DhcpL
       let r = l.room in
       rw (datagram_size s) (omega arith, omega arith)
 
-  fields_ask : (s : Sending) → (fields_of settings lease id s).asks ≡ true
-  fields_ask (Discover s) = refl
-  fields_ask (Request s) = refl
-  fields_ask (Renew s) = refl
-
   -- The writer refuses by 8 alone, and only where the datagram does not fit.
   pub fits_or_not : (s : Sending) (room : ℕ)
-      → (when leb (8 + length (body_of settings lease id s)) room then Length (8 + length (body_of settings lease id s)) else Refused 8) ≡ wrote settings lease id s room
+      → (when leb (8 + length (body_of settings lease id s)) room then Ok (8 + length (body_of settings lease id s)) else Err ShortBuffer) ≡ wrote settings lease id s room
   unfolding wrote written
   fits_or_not s room =
       let u = unrefused settings h in
-      ap (fitted room) (if_false _ u.items refl ∙ measuring settings u.counted (fields_of settings lease id s) (fields_ask s))
+      ap (fitted room) (if_false _ u.items refl ∙ measuring settings u.counted (fields_of settings lease id s))

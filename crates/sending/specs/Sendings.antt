@@ -1,17 +1,16 @@
 -- A message that is due (document 01, "Polling"): its transaction id, its fields, where it goes from and to, and the datagram.
-use Rattle.std.specs.Prelude.{ℕ, Bool, true, false, List}
+use Rattle.std.specs.Prelude.{ℕ, Bool, true, false, List, None, Some, Result}
 use Rattle.choice.specs.Choice.{when◌then◌else◌}
 use Rattle.clock.specs.Generator.{drawn32}
 use Rattle.clock.specs.declared.rand.Rand.{Rand}
-use Rattle.clock.specs.declared.rand.Drawn32.{Drawn32}
+use Rattle.clock.specs.declared.rand.Drawn.{Drawn}
 use Rattle.octets.specs.Codes.{request, discover}
-use Rattle.octets.specs.declared.number.MaybeNumber.TheVariants.{None, Some}
 use Rattle.message.specs.Messages.{message}
 use Rattle.message.specs.Datagrams.{datagram}
 use Rattle.message.specs.Written.{written, buffer_after}
 use Rattle.message.specs.declared.datagram.Endpoints.{Endpoints}
-use Rattle.message.specs.declared.message.Answer.{Answer}
 use Rattle.message.specs.declared.message.Message.{Message}
+use Rattle.reasons.specs.declared.refusal.Refusal.{Refusal}
 use Rattle.machine.specs.declared.decide.Sending.{Sending}
 use Rattle.machine.specs.declared.decide.Sending.TheVariants.{Discover, Request, Renew}
 use Rattle.settings.specs.Settings.{name_of, list_of, extra_of, message_of}
@@ -39,7 +38,7 @@ id_for id g sending = when draws sending then (drawn32 g).value else id
 unfoldable pub rand_after : Rand → Sending → Rand
 rand_after g sending = when draws sending then (drawn32 g).rand else g
 
-abbrev pub drawn_for : ℕ → Rand → Sending → Drawn32
+abbrev pub drawn_for : ℕ → Rand → Sending → Drawn ℕ
 drawn_for id g sending = record { rand = rand_after g sending; value = id_for id g sending }
 
 -- The fields of a message: "50 and 54 in Requesting only"; "Renewing sets the client address".
@@ -63,17 +62,17 @@ endpoints_of lease (Renew s) =
 -- The message, and the datagram.
 abbrev pub body_of : Settings → DhcpLease → ℕ → Sending → List ℕ
 body_of settings lease id sending =
-    message (fields_of settings lease id sending) (name_of settings) (list_of settings) (extra_of settings)
+    message (fields_of settings lease id sending) (name_of settings) (Some (list_of settings)) (extra_of settings)
 
 unfoldable pub datagram_for : Settings → DhcpLease → ℕ → Sending → List ℕ
 datagram_for settings lease id sending =
     datagram (endpoints_of lease sending) settings.offload (body_of settings lease id sending)
 
 -- What the writer answers, lent so many octets, and what it leaves in the buffer.
-unfoldable pub wrote : Settings → DhcpLease → ℕ → Sending → ℕ → Answer
+unfoldable pub wrote : Settings → DhcpLease → ℕ → Sending → ℕ → Result ℕ Refusal
 wrote settings lease id sending room =
-    written (fields_of settings lease id sending) (name_of settings) (list_of settings) (extra_of settings) room
+    written (fields_of settings lease id sending) (name_of settings) (Some (list_of settings)) (extra_of settings) room
 
 unfoldable pub left_in : Settings → DhcpLease → ℕ → Sending → List ℕ → List ℕ
 left_in settings lease id sending buffer =
-    buffer_after (endpoints_of lease sending) settings.offload (fields_of settings lease id sending) (name_of settings) (list_of settings) (extra_of settings) buffer
+    buffer_after (endpoints_of lease sending) settings.offload (fields_of settings lease id sending) (name_of settings) (Some (list_of settings)) (extra_of settings) buffer

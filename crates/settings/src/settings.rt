@@ -1,26 +1,27 @@
-// What a client is created with, and numbers 1 to 7, which refuse it.
-ghost use Rattle.std.specs.Prelude.{◌≡◌, ◌+◌, ◌≤◌, ◌-◌, length};
-ghost use Rattle.settings.specs.Settings.{no_settings, is_ethernet, message_of, longest_length, maximum_of, name_of, list_of, extra_of, over_cap, Counted, refusal_of, lists_refusal, size_refusal, waits_of};
-ghost use Rattle.octets.specs.Items.{whole_items};
-ghost use Rattle.message.specs.Messages.{name_option};
-ghost use Rattle.message.specs.Written.{written, buffer_after, list_fits};
+// What a client is created with, and what of it is refused: Medium (1) to LongestMessage (7).
+#![tactic(auto, using(choice::proofs::Choices::if_true, choice::proofs::Choices::if_false), unfolding(message::specs::Written::list_fits, crate::specs::Settings::list_of, crate::specs::Settings::maximum_of, crate::specs::Settings::lists_refusal, crate::specs::Settings::refusal_of))]
 
-use clock::{Duration, MaybeDuration, Waits};
-use message::message::{EXTRA_LIMIT, LIST_LIMIT, NAME_LIMIT};
-use message::{Answer, Endpoints, Message};
-use octets::MaybeNumber;
-use octets::codes::{OPT_DOMAIN_NAME_SERVER, OPT_ROUTER, OPT_SUBNET_MASK};
+ghost use Rattle.std.specs.Prelude.{◌≡◌, length, Some, option_copied};
+ghost use Rattle.std.specs.Result.{result_err};
+ghost use Rattle.settings.specs.Settings.{no_settings, message_of, longest, maximum_of, name_of, asked_list, extra_of, refusal_of, waits_of};
+ghost use Rattle.message.specs.Written.{written, buffer_after};
+
+use clock::{Duration, Waits};
+use message::lists::{EXTRA_LIMIT, LIST_LIMIT, NAME_LIMIT};
+use message::{Endpoints, Lists, Message, message_len, write_message};
+use octets::codes::{OPT_DOMAIN_NAME_SERVER, OPT_ROUTER, OPT_SUBNET_MASK, REQUEST};
 use octets::span::up_to;
+use reasons::Refusal;
 
-#[derive(Clone, Copy)]
+#[derive(Clone, Copy, Debug, PartialEq, Eq)]
 pub enum Medium {
     Ethernet,
     Ip,
     Ieee802154,
 }
 
-// Of each array the first so many octets count, and nothing behind a no is read.
-#[derive(Clone, Copy)]
+// Of each array the first so many octets count, and nothing behind a no is read: document 01's form for slices and options.
+#[derive(Clone, Copy, Debug, PartialEq, Eq)]
 pub struct Settings {
     pub medium: Medium,
     pub mtu: u16,
@@ -42,7 +43,7 @@ pub struct Settings {
     pub maximum: Duration,
 }
 
-// Limits of document 01's number 2.
+// Limits of Mtu (2).
 const MTU_LEAST: u16 = 576;
 
 const MTU_MOST: u16 = 1500;
@@ -60,7 +61,7 @@ const DEFAULT_PARAMETER_REQUEST_LIST: [u8; 3] = [
 ];
 
 impl Settings {
-    // All zero.
+    // All zero, field by field: Default can't be derived, since an array over 32 long has none.
     pub fn zero() -> Settings
         ensures { result ≡ no_settings }
     {
@@ -81,165 +82,98 @@ impl Settings {
         }
     }
 
-    // The first of 1 to 7 that refuses these settings, or none.
-    pub fn refusal(self) -> MaybeNumber
-        ensures { result ≡ refusal_of self }
+    // Refuses these settings by the first of Medium (1) to LongestMessage (7) that they give cause for.
+    pub fn checked(&self) -> Result<(), Refusal>
+        ensures { result_err result ≡ refusal_of self.now }
     {
-        let medium = self.medium;
-        if !medium.is_ethernet() {
-            return MaybeNumber::Some(1);
+        if self.medium != Medium::Ethernet {
+            return Err(Refusal::Medium);
         }
-        if self.mtu < MTU_LEAST {
-            return MaybeNumber::Some(2);
+        if self.mtu < MTU_LEAST || MTU_MOST < self.mtu {
+            return Err(Refusal::Mtu);
         }
-        if MTU_MOST < self.mtu {
-            return MaybeNumber::Some(2);
-        }
-        self.lists_refusal()
-    }
-
-    // 3 to 7, of settings that 1 and 2 don't refuse.
-    fn lists_refusal(self) -> MaybeNumber
-        requires { 576 ≤ self.mtu }
-        ensures { result ≡ lists_refusal self }
-    {
         if NAME_LIMIT < self.name_len {
-            return MaybeNumber::Some(3);
+            return Err(Refusal::Name);
         }
-        if !self.list_fits() {
-            return MaybeNumber::Some(4);
+        let codes = self.listed.then_some(self.list_len);
+        if codes.is_some_and(|n| LIST_LIMIT < n) {
+            return Err(Refusal::RequestList);
         }
         if EXTRA_LIMIT < self.extra_len {
-            return MaybeNumber::Some(5);
+            return Err(Refusal::ExtraOptions);
         }
-        self.size_refusal()
+        let n = message_len(self.longest(), self.lists(true))?;
+        let maximum = self.longest_lease();
+        if maximum.is_some_and(|most| Duration::MAX.millis < most.millis) {
+            return Err(Refusal::Maximum);
+        }
+        if usize::from(self.mtu - HEADERS) < n {
+            return Err(Refusal::LongestMessage);
+        }
+        Ok(())
     }
 
-    // Whether the request list, if there is one, is within its limit.
-    fn list_fits(self) -> bool
-        ensures { result ≡ list_fits self.listed self.list_len }
+    // What refuses these settings, or none.
+    pub fn refusal(&self) -> Option<Refusal>
+        ensures { result ≡ refusal_of self.now }
     {
-        if self.listed {
-            return self.list_len <= LIST_LIMIT;
-        }
-        true
+        self.checked().err()
     }
 
-    // The rest of 5, then 6 and 7, of settings whose counts are within their limits.
-    fn size_refusal(self) -> MaybeNumber
-        requires { Counted self }
-        ensures { result ≡ size_refusal self }
+    // The lists of a message; a request list is among them where it asks for options.
+    fn lists(&self, asks: bool) -> Lists<'_>
+        ensures name { result.name.now ≡ name_of self.now }
+        ensures list { option_copied result.list ≡ asked_list asks self.now }
+        ensures extra { result.extra.now ≡ extra_of self.now }
     {
-        if !self.has_whole_extra() {
-            return MaybeNumber::Some(5);
+        let list = if self.listed {
+            up_to(&self.list, self.list_len)
+        } else {
+            &DEFAULT_PARAMETER_REQUEST_LIST
+        };
+        Lists {
+            name: up_to(&self.name, self.name_len),
+            list: asks.then_some(list),
+            extra: up_to(&self.extra, self.extra_len),
         }
-        if self.is_over_cap() {
-            return MaybeNumber::Some(6);
-        }
-        if ((self.mtu - HEADERS) as usize) < self.longest_len() {
-            return MaybeNumber::Some(7);
-        }
-        MaybeNumber::None
     }
 
-    // Whether the extra options are whole items; they are not read where there are none.
-    fn has_whole_extra(self) -> bool
-        ensures { result ≡ whole_items (extra_of self) }
+    // The longest message, a Request in Requesting.
+    fn longest(&self) -> Message
+        ensures { result ≡ longest self.now }
     {
-        if self.extra_len == 0 {
-            return true;
-        }
-        let extra = self.extra;
-        let n = self.extra_len;
-        octets::item::whole_items(up_to(&extra, n))
+        self.message(REQUEST, 0, 0, Some(0), Some(0))
     }
 
-    // Whether there is a maximum that no duration reaches.
-    fn is_over_cap(self) -> bool
-        ensures { result ≡ over_cap self }
+    // Writes a message of a client with these settings as a datagram at the start of buf, or refuses it as Name (3),
+    // RequestList (4), ExtraOptions (5) or ShortBuffer (8) and writes nothing. Whether it asks is the message's own affair, and the
+    // endpoints are its sender's: no struct here would hold both.
+    pub fn write(
+        self,
+        m: Message,
+        asks: bool,
+        ends: Endpoints,
+        buf: &mut [u8],
+    ) -> Result<usize, Refusal>
+        ensures { (result ≡ written m (name_of self) (asked_list asks self) (extra_of self) (length buf.old)) × (buf.new ≡ buffer_after ends self.offload m (name_of self) (asked_list asks self) (extra_of self) buf.old) }
     {
-        if self.capped {
-            return Duration::MAX.millis < self.maximum.millis;
-        }
-        false
+        write_message(buf, ends, self.offload, m, self.lists(asks))
     }
 
-    // The length of the longest message, a Request in Requesting: 269 octets, and what differs from client to client.
-    fn longest_len(self) -> usize
-        requires { Counted self }
-        ensures { result ≡ longest_length self }
-    {
-        269 + self.named_len() + self.asked_len() + self.extra_len
-    }
-
-    // Of these, the octets of option 12, and of option 55.
-    fn named_len(self) -> usize
-        requires { Counted self }
-        ensures { (result ≡ length (name_option (name_of self))) × (result ≤ 65) }
-    {
-        if self.name_len == 0 {
-            return 0;
-        }
-        self.name_len + 2
-    }
-
-    fn asked_len(self) -> usize
-        requires { Counted self }
-        ensures { (result ≡ 2 + length (list_of self)) × (result ≤ 66) }
-    {
-        if self.listed {
-            return self.list_len + 2;
-        }
-        5
-    }
-
-    // Writes a message of a client with these settings as a datagram at the start of buf, or refuses by 3, 4, 5 or 8 and
-    // writes nothing.
-    pub fn write(self, m: Message, ends: Endpoints, buf: &mut [u8]) -> Answer
-        ensures { (result ≡ written m (name_of self) (list_of self) (extra_of self) (length buf.old)) × (buf.new ≡ buffer_after ends self.offload m (name_of self) (list_of self) (extra_of self) buf.old) }
-    {
-        let name = self.name;
-        let n = self.name_len;
-        let extra = self.extra;
-        let e = self.extra_len;
-        if self.listed {
-            let list = self.list;
-            let k = self.list_len;
-            return message::write_message(
-                buf,
-                ends,
-                self.offload,
-                m,
-                up_to(&name, n),
-                up_to(&list, k),
-                up_to(&extra, e),
-            );
-        }
-        let list = DEFAULT_PARAMETER_REQUEST_LIST;
-        message::write_message(
-            buf,
-            ends,
-            self.offload,
-            m,
-            up_to(&name, n),
-            &list,
-            up_to(&extra, e),
-        )
-    }
-
-    // The fields of such a message, which says how long a message the client takes, and asks for options.
+    // The fields of a message with these values, the hardware address and option 57. They stay apart: Message is what they make.
     pub fn message(
         self,
         kind: u8,
         id: u32,
         client: u32,
-        requested: MaybeNumber,
-        server: MaybeNumber,
+        requested: Option<u32>,
+        server: Option<u32>,
     ) -> Message
         ensures { result ≡ message_of self kind id client requested server }
     {
+        // option 57, the longest message that the client takes: the MTU less the longest headers
+        let size = u32::from(self.mtu.saturating_sub(LONGEST_HEADERS));
         let hardware = self.hardware;
-        let size = self.longest_reply();
         Message {
             kind,
             id,
@@ -247,19 +181,8 @@ impl Settings {
             hardware,
             requested,
             server,
-            size: MaybeNumber::Some(size),
-            asks: true,
+            size: Some(size),
         }
-    }
-
-    // What a message says of the longest that the client takes: the MTU less the longest headers.
-    fn longest_reply(self) -> u32
-        ensures { result ≡ self.mtu - 68 }
-    {
-        if self.mtu < LONGEST_HEADERS {
-            return 0;
-        }
-        (self.mtu - LONGEST_HEADERS) as u32
     }
 
     // How long a client with these settings waits.
@@ -270,25 +193,9 @@ impl Settings {
     }
 
     // The longest lease, if there is such a limit.
-    pub fn longest_lease(self) -> MaybeDuration
+    pub fn longest_lease(self) -> Option<Duration>
         ensures { result ≡ maximum_of self }
     {
-        if self.capped {
-            let maximum = self.maximum;
-            return MaybeDuration::Some(maximum);
-        }
-        MaybeDuration::None
-    }
-}
-
-impl Medium {
-    fn is_ethernet(self) -> bool
-        ensures { result ≡ is_ethernet self }
-    {
-        match self {
-            Medium::Ethernet => true,
-            Medium::Ip => false,
-            Medium::Ieee802154 => false,
-        }
+        self.capped.then_some(self.maximum)
     }
 }

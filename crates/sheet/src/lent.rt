@@ -1,25 +1,20 @@
 // The buffer that a poll is lent.
 
-// Fills it.
-pub fn lend(buf: &mut [u8], fill: u32) {
-    let mut i = 0;
-    let mut n = fill % 256;
-    while i < buf.len() {
-        buf[i] = n as u8;
-        n = (n + 1) % 256;
-        i += 1;
+// Fills it: the octet at place i is `fill` + i modulo 256.
+pub fn lend(buf: &mut [u8], fill: u8) {
+    for (i, octet) in buf.iter_mut().enumerate() {
+        *octet = lent_at(i, fill);
     }
 }
 
-// Up to where it is not as it was lent.
-pub fn changed(buf: &[u8], fill: u32) -> usize {
-    let mut n = buf.len();
-    while 0 < n {
-        let lent = (fill as usize % 256 + (n - 1) % 256) % 256;
-        if buf[n - 1] != lent as u8 {
-            return n;
-        }
-        n -= 1;
-    }
-    0
+fn lent_at(i: usize, fill: u8) -> u8 {
+    fill.wrapping_add((i & 0xff) as u8)
+}
+
+// How many octets there are up to the last that is not as it was lent.
+pub fn changed(buf: &[u8], fill: u8) -> usize {
+    buf.iter()
+        .enumerate()
+        .rposition(|(i, octet)| *octet != lent_at(i, fill))
+        .map_or(0, |last| last + 1)
 }

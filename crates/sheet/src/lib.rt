@@ -1,8 +1,12 @@
-// The records of docs/TRACE.md on a sheet: forms, rows, a lent buffer, and lines written from rows.
+// The records of docs/TRACE.md: their forms, lines read by them, and a sheet on which answers are written.
 
 #![tactic(auto)]
 
-pub mod forms;
+pub mod form;
 pub mod lent;
-pub mod rows;
-pub mod write;
+pub mod record;
+pub mod sheet;
+
+pub use form::{Answer, Call, Form, Part};
+pub use record::{Malformed, Octets, Record, Value};
+pub use sheet::Sheet;

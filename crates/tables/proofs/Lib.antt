@@ -1,8 +1,7 @@
 pub mod Lists
-pub mod Loops
+pub mod Opened
 pub mod Made
-pub mod Leases
-pub mod Additions
+pub mod Loops
 pub mod Origins
 pub mod Wholes
 pub mod ByHand

@@ -1,28 +1,34 @@
--- Tables that were written anew. Assumes nothing.
-use Rattle.std.proofs.Common.{◌≡◌, ◌-◌, List, length, replicate, sym, ap, ◌∙◌}
-use lib.Seq.{take-append_seam}
-use Rattle.tables.specs.Entries.{places}
-use Rattle.tables.specs.Tables.{addr_table, route_table, addrs_of, routes_of, zero_addr, zero_route}
-use Rattle.tables.specs.declared.address.IfaceAddr.{IfaceAddr}
-use Rattle.tables.specs.declared.address.AddrTable.{AddrTable}
-use Rattle.tables.specs.declared.route.Route.{Route}
-use Rattle.tables.specs.declared.route.RouteTable.{RouteTable}
+-- A table that was written anew. Assumes nothing.
+use Rattle.std.proofs.Common.{◌≡◌, ◌+◌, ◌-◌, ◌<◌, ◌≤◌, suc, List, [], ◌∷◌, ◌++◌, length, set, replicate, sym, ap, ◌∙◌, append_assoc, arith, length-append}
+use lib.Seq.{take-append_seam, set-append_seam}
+use Rattle.tables.specs.Entries.{places, in_places, entered}
+use Rattle.tables.specs.Table.{table, in_use}
+use Rattle.tables.specs.declared.table.Table.{Table}
+use Rattle.tables.proofs.Lists.{entered_full, entered_room}
 
--- the entries in use are those it was written with
-pub addrs_made : (xs : List IfaceAddr) → addrs_of (addr_table xs) ≡ xs
-addrs_made xs = take-append_seam xs (replicate (places - length xs) zero_addr)
+module _ {A : Type 0} (z : A) where
+  -- the entries in use are those it was written with
+  pub in_use_table : (xs : List A) → in_use (table z xs) ≡ xs
+  in_use_table xs = take-append_seam xs (replicate (places - length xs) z)
 
-pub routes_made : (xs : List Route) → routes_of (route_table xs) ≡ xs
-routes_made xs = take-append_seam xs (replicate (places - length xs) zero_route)
+  -- one entry more, behind those that are there
+  set_next : (x : A) (xs : List A) → length xs < places → set (in_places z xs) (length xs) x ≡ in_places z (xs ++ (x ∷ []))
+  set_next x xs h =
+      let e₁ : places - length xs ≡ suc (places - suc (length xs)) = omega arith in
+      let e₂ : places - length (xs ++ (x ∷ [])) ≡ places - suc (length xs) = simp length-append (omega arith) in
+      rw (e₁, e₂) (set-append_seam xs z (replicate (places - suc (length xs)) z) x ∙ sym (append_assoc xs (x ∷ []) (replicate (places - suc (length xs)) z)))
 
-pub addrs_of_lem : (t : AddrTable) (xs : List IfaceAddr) → t ≡ addr_table xs → addrs_of t ≡ xs
-addrs_of_lem t xs e = ap addrs_of e ∙ addrs_made xs
+  pub with_full : (t : Table A) (xs : List A) (x : A) → t ≡ table z xs → places ≤ t.count → t ≡ table z (entered xs (x ∷ []))
+  with_full t xs x e h =
+      let l : t.count ≡ length xs = ap (λ (t : Table A). t.count) e in
+      e ∙ ap (table z) (sym (entered_full xs (x ∷ []) (omega arith)))
 
-pub routes_of_lem : (t : RouteTable) (xs : List Route) → t ≡ route_table xs → routes_of t ≡ xs
-routes_of_lem t xs e = ap routes_of e ∙ routes_made xs
-
-pub addrs_rewritten : (t : AddrTable) (xs : List IfaceAddr) → t ≡ addr_table xs → t ≡ addr_table (addrs_of t)
-addrs_rewritten t xs e = e ∙ ap addr_table (sym (addrs_of_lem t xs e))
-
-pub routes_rewritten : (t : RouteTable) (xs : List Route) → t ≡ route_table xs → t ≡ route_table (routes_of t)
-routes_rewritten t xs e = e ∙ ap route_table (sym (routes_of_lem t xs e))
+  pub with_room : (t : Table A) (xs : List A) (x : A) → t ≡ table z xs → t.count < places
+      → record { entries = set t.entries t.count x; count = t.count + 1 } ≡ table z (entered xs (x ∷ []))
+  with_room t xs x e h =
+      let l : t.count ≡ length xs = ap (λ (t : Table A). t.count) e in
+      let room : entered xs (x ∷ []) ≡ xs ++ (x ∷ []) = entered_room xs (x ∷ []) (omega arith) in
+      let rows : set t.entries t.count x ≡ in_places z (xs ++ (x ∷ [])) =
+      ap (λ es. set es t.count x) (ap (λ (t : Table A). t.entries) e) ∙ ap (λ n. set (in_places z xs) n x) l ∙ set_next x xs (omega arith) in
+      let count : t.count + 1 ≡ length (xs ++ (x ∷ [])) = simp length-append (omega arith) in
+      rw room cc

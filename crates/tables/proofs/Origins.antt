@@ -1,21 +1,18 @@
 -- What a lease does to DHCP's own entries and to the others, and that whole tables stay whole under it. Assumes nothing.
-use Rattle.std.proofs.Common.{◌≡◌, ◌≤◌, Bool, true, false, not, ◌&&◌, eqb, List, [], ◌++◌, length, refl, ap, ◌∙◌, append-nil, arith, eq-eqb, eqb-true}
+use Rattle.std.proofs.Common.{◌≡◌, ◌≤◌, Bool, true, false, not, ◌&&◌, eqb, List, [], ◌++◌, length, refl, ap, ◌∙◌, append-nil, arith, eq-eqb, eqb-true, ℕ, Option, None, Some}
 use borrow.Author.Tests.{not-true}
 use Rattle.choice.specs.Choice.{when◌then◌else◌}
-use Rattle.octets.specs.declared.number.MaybeNumber.{MaybeNumber}
-use Rattle.octets.specs.declared.number.MaybeNumber.TheVariants.{None, Some}
 use Rattle.tables.specs.Entries.{only, all, less_lost, entered}
-use Rattle.tables.specs.Tables.{addrs_of, routes_of, addr_is_dhcp, addr_is_manual, route_is_dhcp, route_is_manual, dhcp_addrs, other_addrs, dhcp_routes, other_routes, addr_fits, route_fits, whole_addrs, whole_routes, whole_tables}
-use Rattle.tables.specs.Applied.{same_cidr, same_router, leased_addr, leased_addrs, default_route, leased_routes, applied_addrs, applied_routes, applied}
+use Rattle.tables.specs.Table.{in_use, whole_by, leased_by}
+use Rattle.tables.specs.Tables.{zero_addr, zero_route, addr_is_dhcp, route_is_dhcp, dhcp_addrs, other_addrs, dhcp_routes, other_routes, addr_fits, route_fits, whole_tables}
+use Rattle.tables.specs.Applied.{same_cidr, same_router, leased_addrs, leased_routes, applied_addrs, applied_routes, applied}
+use Rattle.tables.specs.declared.table.Table.{Table}
 use Rattle.tables.specs.declared.tables.Tables.{Tables}
-use Rattle.tables.specs.declared.apply.MaybeCidr.{MaybeCidr}
-use Rattle.tables.specs.declared.apply.MaybeCidr.TheVariants.{Absent, Cidr}
+use Rattle.tables.specs.declared.apply.Cidr.{Cidr}
 use Rattle.tables.specs.declared.apply.Installed.{Installed}
-use Rattle.tables.specs.declared.address.AddrTable.{AddrTable}
-use Rattle.tables.specs.declared.route.RouteTable.{RouteTable}
-use Rattle.tables.proofs.Lists.{only_takes, only_passes, only_append, only_implied, only_excluded, all_takes, less_lost_lem}
-use Rattle.tables.proofs.Wholes.{addrs_sound, routes_sound, sound_addrs, sound_routes, sound_entered, parts_whole, whole_parts}
-use Rattle.tables.proofs.Made.{addrs_made, routes_made}
+use Rattle.tables.proofs.Lists.{only_append, only_implied, only_excluded, less_lost_lem}
+use Rattle.tables.proofs.Wholes.{table_sound, sound_table, sound_entered, parts_whole, whole_parts}
+use Rattle.tables.proofs.Made.{in_use_table}
 
 -- new entries of DHCP's behind others that are not, whatever an entry holds
 module _ {A : Type 0} (dhcp : A → Bool) (xs new : List A) where
@@ -43,127 +40,106 @@ module _ {A : Type 0} (dhcp : A → Bool) (xs new : List A) where
       ∙ ap (λ l. others ++ l) (less_lost_lem others new (λ l. only manual l ≡ []) refl n)
       ∙ append-nil others
 
--- a lease's entries are DHCP's
-leased_addrs_own : (new : MaybeCidr) → only addr_is_dhcp (leased_addrs new) ≡ leased_addrs new
-unfolding only
-leased_addrs_own Absent = refl
-leased_addrs_own (Cidr a p) = only_takes addr_is_dhcp (leased_addr a p) [] refl
-
-leased_addrs_none : (new : MaybeCidr) → only addr_is_manual (leased_addrs new) ≡ []
-unfolding only
-leased_addrs_none Absent = refl
-leased_addrs_none (Cidr a p) = only_passes addr_is_manual (leased_addr a p) [] refl
-
-leased_routes_own : (new : MaybeNumber) → only route_is_dhcp (leased_routes new) ≡ leased_routes new
-unfolding only
-leased_routes_own None = refl
-leased_routes_own (Some a) = only_takes route_is_dhcp (default_route a) [] refl
-
-leased_routes_none : (new : MaybeNumber) → only route_is_manual (leased_routes new) ≡ []
-unfolding only
-leased_routes_none None = refl
-leased_routes_none (Some a) = only_passes route_is_manual (default_route a) [] refl
-
 -- what a lease does to one table
-own_addrs_leased : (t : AddrTable) (new : MaybeCidr) (same : Bool) → only addr_is_dhcp (addrs_of (applied_addrs t new same))
-    ≡ when same then only addr_is_dhcp (addrs_of t) else less_lost (only addr_is_manual (addrs_of t)) (leased_addrs new)
-unfolding applied_addrs when◌then◌else◌
-own_addrs_leased t new true = refl
-own_addrs_leased t new false =
-    ap (only addr_is_dhcp) (addrs_made (entered (only addr_is_manual (addrs_of t)) (leased_addrs new)))
-    ∙ own_entered addr_is_dhcp (addrs_of t) (leased_addrs new) (leased_addrs_own new)
+module _ {A : Type 0} (z : A) (dhcp : A → Bool) (t : Table A) (new : List A) where
+  own_leased : (same : Bool) → only dhcp new ≡ new
+      → only dhcp (in_use (leased_by z (λ x. not (dhcp x)) t new same)) ≡ when same then only dhcp (in_use t) else less_lost (only (λ x. not (dhcp x)) (in_use t)) new
+  unfolding when◌then◌else◌
+  own_leased true n = refl
+  own_leased false n = ap (only dhcp) (in_use_table z (entered (only (λ x. not (dhcp x)) (in_use t)) new)) ∙ own_entered dhcp (in_use t) new n
 
-other_addrs_leased : (t : AddrTable) (new : MaybeCidr) (same : Bool) → only addr_is_manual (addrs_of (applied_addrs t new same)) ≡ only addr_is_manual (addrs_of t)
-unfolding applied_addrs when◌then◌else◌
-other_addrs_leased t new true = refl
-other_addrs_leased t new false =
-    ap (only addr_is_manual) (addrs_made (entered (only addr_is_manual (addrs_of t)) (leased_addrs new)))
-    ∙ others_entered addr_is_dhcp (addrs_of t) (leased_addrs new) (leased_addrs_none new)
+  others_leased : (same : Bool) → only (λ x. not (dhcp x)) new ≡ []
+      → only (λ x. not (dhcp x)) (in_use (leased_by z (λ x. not (dhcp x)) t new same)) ≡ only (λ x. not (dhcp x)) (in_use t)
+  unfolding when◌then◌else◌
+  others_leased true n = refl
+  others_leased false n =
+      ap (only (λ x. not (dhcp x))) (in_use_table z (entered (only (λ x. not (dhcp x)) (in_use t)) new)) ∙ others_entered dhcp (in_use t) new n
 
-own_routes_leased : (t : RouteTable) (new : MaybeNumber) (same : Bool) → only route_is_dhcp (routes_of (applied_routes t new same))
-    ≡ when same then only route_is_dhcp (routes_of t) else less_lost (only route_is_manual (routes_of t)) (leased_routes new)
-unfolding applied_routes when◌then◌else◌
-own_routes_leased t new true = refl
-own_routes_leased t new false =
-    ap (only route_is_dhcp) (routes_made (entered (only route_is_manual (routes_of t)) (leased_routes new)))
-    ∙ own_entered route_is_dhcp (routes_of t) (leased_routes new) (leased_routes_own new)
+  -- and a whole one stays whole under a lease that fits
+  whole_leased : (fits : A → Bool) (same : Bool) → all fits new ≡ true → length new ≤ 1 → whole_by fits t ≡ true
+      → whole_by fits (leased_by z (λ x. not (dhcp x)) t new same) ≡ true
+  unfolding when◌then◌else◌
+  whole_leased fits true f n h = h
+  whole_leased fits false f n h =
+      sound_table fits z (entered (only (λ x. not (dhcp x)) (in_use t)) new) (sound_entered fits (λ x. not (dhcp x)) (in_use t) new (table_sound fits t h) f n)
 
-other_routes_leased : (t : RouteTable) (new : MaybeNumber) (same : Bool) → only route_is_manual (routes_of (applied_routes t new same)) ≡ only route_is_manual (routes_of t)
-unfolding applied_routes when◌then◌else◌
-other_routes_leased t new true = refl
-other_routes_leased t new false =
-    ap (only route_is_manual) (routes_made (entered (only route_is_manual (routes_of t)) (leased_routes new)))
-    ∙ others_entered route_is_dhcp (routes_of t) (leased_routes new) (leased_routes_none new)
+-- a lease's entries are DHCP's, and one at most
+record Leased {A : Type 0} (dhcp : A → Bool) (new : List A) : Type 0 where
+  own : only dhcp new ≡ new
+  none : only (λ x. not (dhcp x)) new ≡ []
+  one : length new ≤ 1
+
+leased_addrs_lem : (new : Option Cidr) → Leased addr_is_dhcp (leased_addrs new)
+unfolding only
+leased_addrs_lem None = record { own = refl; none = refl; one = omega arith }
+leased_addrs_lem (Some a) = record { own = refl; none = refl; one = omega arith }
+
+leased_routes_lem : (new : Option ℕ) → Leased route_is_dhcp (leased_routes new)
+unfolding only
+leased_routes_lem None = record { own = refl; none = refl; one = omega arith }
+leased_routes_lem (Some a) = record { own = refl; none = refl; one = omega arith }
+
+leased_routes_fit : (new : Option ℕ) → all route_fits (leased_routes new) ≡ true
+unfolding all
+leased_routes_fit None = refl
+leased_routes_fit (Some a) = refl
 
 -- A lease that comes, changes or goes: of each table, DHCP's own entries are the new ones, less any lost, where the value
 -- changed, and the others stay.
 module _ (t : Tables) (new old : Installed) where
   pub own_addrs_applied : dhcp_addrs (applied t new old).tables
       ≡ when same_cidr new.address old.address then dhcp_addrs t else less_lost (other_addrs t) (leased_addrs new.address)
-  own_addrs_applied = own_addrs_leased t.ip_addrs new.address (same_cidr new.address old.address)
+  unfolding applied_addrs
+  own_addrs_applied = own_leased zero_addr addr_is_dhcp t.ip_addrs (leased_addrs new.address) (same_cidr new.address old.address) (leased_addrs_lem new.address).own
 
   pub other_addrs_applied : other_addrs (applied t new old).tables ≡ other_addrs t
-  other_addrs_applied = other_addrs_leased t.ip_addrs new.address (same_cidr new.address old.address)
+  unfolding applied_addrs
+  other_addrs_applied = others_leased zero_addr addr_is_dhcp t.ip_addrs (leased_addrs new.address) (same_cidr new.address old.address) (leased_addrs_lem new.address).none
 
   pub own_routes_applied : dhcp_routes (applied t new old).tables
       ≡ when same_router new.router old.router then dhcp_routes t else less_lost (other_routes t) (leased_routes new.router)
-  own_routes_applied = own_routes_leased t.routes new.router (same_router new.router old.router)
+  unfolding applied_routes
+  own_routes_applied = own_leased zero_route route_is_dhcp t.routes (leased_routes new.router) (same_router new.router old.router) (leased_routes_lem new.router).own
 
   pub other_routes_applied : other_routes (applied t new old).tables ≡ other_routes t
-  other_routes_applied = other_routes_leased t.routes new.router (same_router new.router old.router)
+  unfolding applied_routes
+  other_routes_applied = others_leased zero_route route_is_dhcp t.routes (leased_routes new.router) (same_router new.router old.router) (leased_routes_lem new.router).none
 
 -- whole tables stay whole under a lease whose prefix fits
-whole_addrs_leased : (t : AddrTable) (new : MaybeCidr) (same : Bool) → all addr_fits (leased_addrs new) ≡ true → whole_addrs t ≡ true → whole_addrs (applied_addrs t new same) ≡ true
-unfolding applied_addrs when◌then◌else◌
-whole_addrs_leased t new true f h = h
-whole_addrs_leased t new false f h = sound_addrs (entered (only addr_is_manual (addrs_of t)) (leased_addrs new)) (sound_entered addr_fits addr_is_manual (addrs_of t) (leased_addrs new) (addrs_sound t h) f (one_addr new))
-  where
-    one_addr : (new : MaybeCidr) → length (leased_addrs new) ≤ 1
-    one_addr Absent = omega arith
-    one_addr (Cidr a p) = omega arith
-
-leased_routes_fit : (new : MaybeNumber) → (all route_fits (leased_routes new) ≡ true) × (length (leased_routes new) ≤ 1)
-unfolding all
-leased_routes_fit None = (refl, omega arith)
-leased_routes_fit (Some a) = (all_takes route_fits (default_route a) [] refl, omega arith)
-
-whole_routes_leased : (t : RouteTable) (new : MaybeNumber) (same : Bool) → whole_routes t ≡ true → whole_routes (applied_routes t new same) ≡ true
-unfolding applied_routes when◌then◌else◌
-whole_routes_leased t new true h = h
-whole_routes_leased t new false h =
-    let f = leased_routes_fit new in
-    sound_routes (entered (only route_is_manual (routes_of t)) (leased_routes new)) (sound_entered route_fits route_is_manual (routes_of t) (leased_routes new) (routes_sound t h) f.0 f.1)
-
 pub whole_applied : (t : Tables) (new old : Installed) → all addr_fits (leased_addrs new.address) ≡ true → whole_tables t ≡ true → whole_tables (applied t new old).tables ≡ true
+unfolding applied_addrs applied_routes
 whole_applied t new old f h =
     let p = parts_whole t h in
     whole_parts (applied t new old).tables
-    (whole_addrs_leased t.ip_addrs new.address (same_cidr new.address old.address) f p.0)
-    (whole_routes_leased t.routes new.router (same_router new.router old.router) p.1)
+    (whole_leased zero_addr addr_is_dhcp t.ip_addrs (leased_addrs new.address) addr_fits (same_cidr new.address old.address) f (leased_addrs_lem new.address).one p.0)
+    (whole_leased zero_route route_is_dhcp t.routes (leased_routes new.router) route_fits (same_router new.router old.router) (leased_routes_fit new.router) (leased_routes_lem new.router).one p.1)
 
 -- values are the same exactly if they are equal
 pub and_true : (a b : Bool) → a && b ≡ true → (a ≡ true) × (b ≡ true)
 and_true true b h = (refl, h)
 and_true false b h = (cc, cc)
 
-pub same_cidr_lem : (a b : MaybeCidr) → same_cidr a b ≡ true → a ≡ b
-same_cidr_lem Absent Absent h = refl
-same_cidr_lem Absent (Cidr b q) h = cc
-same_cidr_lem (Cidr a p) Absent h = cc
-same_cidr_lem (Cidr a p) (Cidr b q) h =
-    let both = and_true (eqb a b) (eqb p q) h in
-    rw (eqb-true a b both.0, eqb-true p q both.1) refl
+pub same_cidr_lem : (a b : Option Cidr) → same_cidr a b ≡ true → a ≡ b
+same_cidr_lem None None h = refl
+same_cidr_lem None (Some b) h = cc
+same_cidr_lem (Some a) None h = cc
+same_cidr_lem (Some a) (Some b) h =
+    let both = and_true (eqb a.address b.address) (eqb a.prefix b.prefix) h in
+    ap (λ n. Some (cidr n a.prefix)) (eqb-true a.address b.address both.0) ∙ ap (λ n. Some (cidr b.address n)) (eqb-true a.prefix b.prefix both.1)
+  where
+    cidr : ℕ → ℕ → Cidr
+    cidr address prefix = record { address = address; prefix = prefix }
 
-pub same_cidr_self : (a : MaybeCidr) → same_cidr a a ≡ true
-same_cidr_self Absent = refl
-same_cidr_self (Cidr a p) = rw (eq-eqb a a refl, eq-eqb p p refl) refl
+pub same_cidr_self : (a : Option Cidr) → same_cidr a a ≡ true
+same_cidr_self None = refl
+same_cidr_self (Some a) = rw (eq-eqb a.address a.address refl, eq-eqb a.prefix a.prefix refl) refl
 
-pub same_router_lem : (a b : MaybeNumber) → same_router a b ≡ true → a ≡ b
+pub same_router_lem : (a b : Option ℕ) → same_router a b ≡ true → a ≡ b
 same_router_lem None None h = refl
 same_router_lem None (Some b) h = cc
 same_router_lem (Some a) None h = cc
 same_router_lem (Some a) (Some b) h = ap Some (eqb-true a b h)
 
-pub same_router_self : (a : MaybeNumber) → same_router a a ≡ true
+pub same_router_self : (a : Option ℕ) → same_router a a ≡ true
 same_router_self None = refl
 same_router_self (Some a) = eq-eqb a a refl

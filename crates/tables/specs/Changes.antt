@@ -1,20 +1,23 @@
--- For contracts within this crate, which no public one cites: which entries a change leaves in a table.
-use Rattle.std.specs.Prelude.{Bool, true}
-use Rattle.tables.specs.Tables.{addr_is_manual, route_is_manual}
-use Rattle.tables.specs.Manual.{addr_stays, route_stays}
-use Rattle.tables.specs.declared.address.IfaceAddr.{IfaceAddr}
-use Rattle.tables.specs.declared.address.AddrsOut.{AddrsOut}
-use Rattle.tables.specs.declared.address.AddrsOut.TheVariants as addrs
-use Rattle.tables.specs.declared.route.Route.{Route}
-use Rattle.tables.specs.declared.route.RoutesOut.{RoutesOut}
-use Rattle.tables.specs.declared.route.RoutesOut.TheVariants as routes
+-- For contracts within this crate, which no public one cites: the steps of a call.
+use Rattle.std.specs.Prelude.{◌≡◌, Bool, Result, Ok, Err}
+use Rattle.std.specs.Fn.{Shared, FnReturnsAt}
+use denote.Ref.{Bor}
+use Rattle.choice.specs.Choice.{when◌then◌else◌}
+use Rattle.reasons.specs.declared.refusal.Refusal.{Refusal}
+use Rattle.reasons.specs.declared.refusal.Refusal.TheVariants.{NotWhole}
+use Rattle.tables.specs.Manual.{refused}
+use Rattle.tables.specs.declared.tables.Tables.{Tables}
+use Rattle.tables.specs.declared.manual.Changed.{Changed}
 
-abbrev pub addr_kept : AddrsOut → IfaceAddr → Bool
-addr_kept addrs.Nothing = λ (a : IfaceAddr). true
-addr_kept addrs.Dhcp = addr_is_manual
-addr_kept (addrs.Manual address prefix) = addr_stays address prefix
+-- Each call of a closure, at an entry, answers by this test.
+pub record Computes {F A : Type 0} (g : Shared F (Bor A × Unit {0}) Bool) (f : F) (test : A → Bool) : Type 0 where
+  pub each : (x : A) (b : Bool) → FnReturnsAt g f x b → b ≡ test x
 
-abbrev pub route_kept : RoutesOut → Route → Bool
-route_kept routes.Nothing = λ (a : Route). true
-route_kept routes.Dhcp = route_is_manual
-route_kept (routes.Manual network prefix router) = route_stays network prefix router
+-- Nothing where the test holds, and else the refusal.
+abbrev pub not_whole_unless : Bool → Result (Unit {0}) Refusal
+not_whole_unless test = when test then Ok tt else Err NotWhole
+
+-- What a call hands back that makes these tables of its own, or is refused.
+abbrev pub answered : Tables → Result Tables Refusal → Changed
+answered t (Ok made) = record { tables = made; outcome = Ok tt }
+answered t (Err refusal) = refused t refusal

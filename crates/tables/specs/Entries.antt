@@ -1,27 +1,23 @@
 -- Lists of entries, whatever an entry holds, and the four places of a table.
-use Rattle.std.specs.Prelude.{ℕ, ◌-◌, Bool, true, false, List, [], ◌∷◌, ◌++◌, length, replicate, nat_le}
-use Rattle.std.proofs.Math.Option.{Option, none, some}
+use Rattle.std.specs.Prelude.{ℕ, ◌-◌, Bool, List, [], ◌++◌, length, replicate, nat_le, Option, filter}
+use Rattle.std.specs.List.{list_all, list_any, find}
 use Rattle.choice.specs.Choice.{when◌then◌else◌}
 
 -- Those of a list that pass a test, in their order.
 unfoldable pub only : {A : Type 0} → (A → Bool) → List A → List A
-only test [] = []
-only test (x ∷ xs) = when test x then x ∷ only test xs else only test xs
+only test xs = filter test xs
 
 -- Whether all of a list pass a test.
 unfoldable pub all : {A : Type 0} → (A → Bool) → List A → Bool
-all test [] = true
-all test (x ∷ xs) = when test x then all test xs else false
+all test xs = list_all test xs
 
 -- Whether one of a list passes a test.
 unfoldable pub any : {A : Type 0} → (A → Bool) → List A → Bool
-any test [] = false
-any test (x ∷ xs) = when test x then true else any test xs
+any test xs = list_any test xs
 
 -- The first of a list that passes a test.
 unfoldable pub first : {A : Type 0} → (A → Bool) → List A → Option A
-first test [] = none
-first test (x ∷ xs) = when test x then some x else first test xs
+first test xs = find test xs
 
 -- How many entries a table has room for.
 abbrev pub places : ℕ

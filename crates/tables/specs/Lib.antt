@@ -1,4 +1,5 @@
 pub mod Entries
+pub mod Table
 pub mod Tables
 pub mod Applied
 pub mod Manual

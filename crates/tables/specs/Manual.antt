@@ -1,28 +1,27 @@
 -- The manual calls. Document 01: "the tables take manual addresses and manual routes, and drop manual ones (all with that
 -- address and prefix, for a route that router too; none there is no refusal), without touching config_generation".
 -- Refused, in this order: 9 tables not whole, or the prefix over 32; 10 router not unicast; 11 table full.
-use Rattle.std.specs.Prelude.{ℕ, Bool, false, not, ◌&&◌, ◌||◌, List, [], ◌∷◌, ◌++◌, ◌==◌}
+use Rattle.std.specs.Prelude.{ℕ, Bool, false, not, ◌&&◌, ◌||◌, List, [], ◌∷◌, ◌++◌, ◌==◌, Ok, Err}
 use Rattle.choice.specs.Choice.{when◌then◌else◌}
 use Rattle.octets.specs.Addresses.{unicast}
 use Rattle.tables.specs.Entries.{only, full}
-use Rattle.tables.specs.Tables.{addr_table, route_table, addrs_of, routes_of, prefix_fits, whole_tables}
+use Rattle.reasons.specs.declared.refusal.Refusal.{Refusal}
+use Rattle.reasons.specs.declared.refusal.Refusal.TheVariants.{NotWhole, Router, TableFull}
+use Rattle.tables.specs.Tables.{AddrTable, RouteTable, addr_table, route_table, addrs_of, routes_of, prefix_fits, whole_tables}
 use Rattle.tables.specs.declared.address.IfaceAddr.{IfaceAddr}
 use Rattle.tables.specs.declared.route.Route.{Route}
-use Rattle.tables.specs.declared.address.AddrTable.{AddrTable}
-use Rattle.tables.specs.declared.route.RouteTable.{RouteTable}
 use Rattle.tables.specs.declared.tables.Tables.{Tables}
-use Rattle.tables.specs.declared.outcome.Outcome.TheVariants.{Done, Refused}
 use Rattle.tables.specs.declared.manual.Changed.{Changed}
 
 -- A refusal leaves the tables as they came.
-abbrev pub refused : Tables → ℕ → Changed
-refused t number = record { tables = t; outcome = Refused number }
+abbrev pub refused : Tables → Refusal → Changed
+refused t refusal = record { tables = t; outcome = Err refusal }
 
 -- These tables, and nothing else changed: not the generation.
 abbrev pub changed : Tables → AddrTable → RouteTable → Changed
 changed t addrs routes = record {
   tables = record { ip_addrs = addrs; routes = routes; config_generation = t.config_generation };
-  outcome = Done;
+  outcome = Ok tt;
 }
 
 abbrev pub changed_addrs : Tables → List IfaceAddr → Changed
@@ -58,23 +57,23 @@ admitted t prefix = when whole_tables t then prefix_fits prefix else false
 
 unfoldable pub add_address : Tables → ℕ → ℕ → Changed
 add_address t address prefix =
-    when not (admitted t prefix) then refused t 9
-    else when full (addrs_of t.ip_addrs) then refused t 11
+    when not (admitted t prefix) then refused t NotWhole
+    else when full (addrs_of t.ip_addrs) then refused t TableFull
     else changed_addrs t (addrs_of t.ip_addrs ++ (manual_addr address prefix ∷ []))
 
 unfoldable pub drop_address : Tables → ℕ → ℕ → Changed
 drop_address t address prefix =
-    when not (admitted t prefix) then refused t 9
+    when not (admitted t prefix) then refused t NotWhole
     else changed_addrs t (only (addr_stays address prefix) (addrs_of t.ip_addrs))
 
 unfoldable pub add_route : Tables → ℕ → ℕ → ℕ → Changed
 add_route t network prefix router =
-    when not (admitted t prefix) then refused t 9
-    else when not (unicast router) then refused t 10
-    else when full (routes_of t.routes) then refused t 11
+    when not (admitted t prefix) then refused t NotWhole
+    else when not (unicast router) then refused t Router
+    else when full (routes_of t.routes) then refused t TableFull
     else changed_routes t (routes_of t.routes ++ (manual_route network prefix router ∷ []))
 
 unfoldable pub drop_route : Tables → ℕ → ℕ → ℕ → Changed
 drop_route t network prefix router =
-    when not (admitted t prefix) then refused t 9
+    when not (admitted t prefix) then refused t NotWhole
     else changed_routes t (only (route_stays network prefix router) (routes_of t.routes))

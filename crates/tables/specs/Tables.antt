@@ -1,12 +1,19 @@
 -- The tables: which entries are in use, which of them are DHCP's, and when tables are whole.
-use Rattle.std.specs.Prelude.{ℕ, Bool, false, not, List, [], length, take, nat_le}
+use Rattle.std.specs.Prelude.{ℕ, Bool, false, not, List, [], nat_le}
 use Rattle.choice.specs.Choice.{when◌then◌else◌}
-use Rattle.tables.specs.Entries.{only, all, places, in_places}
+use Rattle.tables.specs.Entries.{only}
+use Rattle.tables.specs.Table.{table, in_use, whole_by}
+use Rattle.tables.specs.declared.table.Table.{Table}
 use Rattle.tables.specs.declared.address.IfaceAddr.{IfaceAddr}
-use Rattle.tables.specs.declared.address.AddrTable.{AddrTable}
 use Rattle.tables.specs.declared.route.Route.{Route}
-use Rattle.tables.specs.declared.route.RouteTable.{RouteTable}
 use Rattle.tables.specs.declared.tables.Tables.{Tables}
+
+-- The two tables, under the names that the code gives them.
+abbrev pub AddrTable : Type 0
+AddrTable = Table IfaceAddr
+
+abbrev pub RouteTable : Type 0
+RouteTable = Table Route
 
 -- What an unused place of a written table holds.
 abbrev pub zero_addr : IfaceAddr
@@ -17,17 +24,17 @@ zero_route = record { network = 0; prefix = 0; router = 0; dhcp = false }
 
 -- The tables that hold these entries, and nothing else.
 abbrev pub addr_table : List IfaceAddr → AddrTable
-addr_table xs = record { entries = in_places zero_addr xs; count = length xs }
+addr_table = table zero_addr
 
 abbrev pub route_table : List Route → RouteTable
-route_table xs = record { entries = in_places zero_route xs; count = length xs }
+route_table = table zero_route
 
 -- The entries in use.
 abbrev pub addrs_of : AddrTable → List IfaceAddr
-addrs_of t = take t.count t.entries
+addrs_of = in_use
 
 abbrev pub routes_of : RouteTable → List Route
-routes_of t = take t.count t.entries
+routes_of = in_use
 
 -- Whether an entry is DHCP's, or was put in by hand.
 abbrev pub addr_is_dhcp : IfaceAddr → Bool
@@ -71,10 +78,10 @@ route_fits a = prefix_fits a.prefix
 
 -- Whether a table is whole: its count is not over its places, and no prefix of an entry in use is over 32.
 unfoldable pub whole_addrs : AddrTable → Bool
-whole_addrs t = when nat_le t.count places then all addr_fits (addrs_of t) else false
+whole_addrs t = whole_by addr_fits t
 
 unfoldable pub whole_routes : RouteTable → Bool
-whole_routes t = when nat_le t.count places then all route_fits (routes_of t) else false
+whole_routes t = whole_by route_fits t
 
 -- Whether tables are whole.
 unfoldable pub whole_tables : Tables → Bool

@@ -1,28 +1,30 @@
 // What a lease that comes, changes or goes does to the tables.
-ghost use Rattle.std.specs.Prelude.{◌≡◌};
-ghost use Rattle.tables.specs.Applied.{same_cidr, same_router, applied, applied_addrs, applied_routes};
+#![tactic(auto, unfolding(crate::proofs::Opened::opened))]
 
-use crate::address::{AddrTable, AddrsOut, IfaceAddr};
-use crate::route::{Route, RouteTable, RoutesOut};
+ghost use Rattle.std.specs.Prelude.{◌≡◌, []};
+ghost use Rattle.std.specs.List.{cons_option};
+ghost use Rattle.tables.specs.Applied.{same_cidr, same_router, leased_addrs, leased_routes, applied};
+
+use crate::address::IfaceAddr;
+use crate::route::Route;
 use crate::tables::Tables;
-use octets::MaybeNumber;
 
-// An address with its prefix, or that there is none.
-#[derive(Clone, Copy)]
-pub enum MaybeCidr {
-    Absent,
-    Cidr { address: u32, prefix: u8 },
+// An address with its prefix.
+#[derive(Clone, Copy, Debug, PartialEq, Eq)]
+pub struct Cidr {
+    pub address: u32,
+    pub prefix: u8,
 }
 
 // What a lease puts into the tables: without a lease, neither.
-#[derive(Clone, Copy)]
+#[derive(Clone, Copy, Debug, PartialEq, Eq)]
 pub struct Installed {
-    pub address: MaybeCidr,
-    pub router: MaybeNumber,
+    pub address: Option<Cidr>,
+    pub router: Option<u32>,
 }
 
 // The tables after it, and whether link state is to be purged.
-#[derive(Clone, Copy)]
+#[derive(Clone, Copy, Debug, PartialEq, Eq)]
 pub struct Applied {
     pub tables: Tables,
     pub purge: bool,
@@ -33,102 +35,41 @@ impl Tables {
     pub fn dhcpv4_apply(self, new: Installed, old: Installed) -> Applied
         ensures { result ≡ applied self new old }
     {
-        let new_addr = new.address;
-        let old_addr = old.address;
-        let new_router = new.router;
-        let old_router = old.router;
-        let addrs = self.ip_addrs;
-        let routes = self.routes;
-        let same = same_cidr(new_addr, old_addr);
-        let ip_addrs = addrs.leased(new_addr, same);
-        let same_routes = same_router(new_router, old_router);
-        let left = routes.leased(new_router, same_routes);
-        let generation = std::num::wrapping_add_u32(self.config_generation, 1);
-        let purge = !same;
+        let same = new.address == old.address;
+        let ip_addrs = self.ip_addrs.leased(new.addr(), same);
+        let routes = self.routes.leased(new.route(), new.router == old.router);
         Applied {
             tables: Tables {
                 ip_addrs,
-                routes: left,
-                config_generation: generation,
+                routes,
+                config_generation: self.config_generation.wrapping_add(1),
             },
-            purge,
+            purge: !same,
         }
     }
 }
 
-impl AddrTable {
-    // The table with the address of a lease in the place of DHCP's entries; as it is where that address is the same.
-    fn leased(self, new: MaybeCidr, same: bool) -> AddrTable
-        ensures { result ≡ applied_addrs self new same }
+impl Installed {
+    // The entry of the address, if there is one.
+    fn addr(self) -> Option<IfaceAddr>
+        ensures { cons_option result [] ≡ leased_addrs self.address }
     {
-        if same {
-            return self;
-        }
-        let kept = self.kept(AddrsOut::Dhcp);
-        match new {
-            MaybeCidr::Absent => kept,
-            MaybeCidr::Cidr { address, prefix } => kept.with(IfaceAddr {
-                address,
-                prefix,
-                dhcp: true,
-            }),
-        }
+        self.address.map(|cidr| IfaceAddr {
+            address: cidr.address,
+            prefix: cidr.prefix,
+            dhcp: true,
+        })
     }
-}
 
-impl RouteTable {
-    // The table with a default route by a lease's router, which is unicast, in the place of DHCP's entries; as it is where
-    // that router is the same.
-    fn leased(self, new: MaybeNumber, same: bool) -> RouteTable
-        ensures { result ≡ applied_routes self new same }
+    // The default route by the router, which is unicast, if there is one.
+    fn route(self) -> Option<Route>
+        ensures { cons_option result [] ≡ leased_routes self.router }
     {
-        if same {
-            return self;
-        }
-        let kept = self.kept(RoutesOut::Dhcp);
-        match new {
-            MaybeNumber::None => kept,
-            MaybeNumber::Some(router) => kept.with(Route {
-                network: 0,
-                prefix: 0,
-                router,
-                dhcp: true,
-            }),
-        }
-    }
-}
-
-// Whether two addresses and their prefixes are the same; none is a value of its own.
-fn same_cidr(a: MaybeCidr, b: MaybeCidr) -> bool
-    ensures { result ≡ same_cidr a b }
-{
-    match a {
-        MaybeCidr::Absent => match b {
-            MaybeCidr::Absent => true,
-            MaybeCidr::Cidr { address, prefix } => false,
-        },
-        MaybeCidr::Cidr { address, prefix } => match b {
-            MaybeCidr::Absent => false,
-            MaybeCidr::Cidr {
-                address: other,
-                prefix: bits,
-            } => (address == other) & (prefix == bits),
-        },
-    }
-}
-
-// The same of two routers.
-pub fn same_router(a: MaybeNumber, b: MaybeNumber) -> bool
-    ensures { result ≡ same_router a b }
-{
-    match a {
-        MaybeNumber::None => match b {
-            MaybeNumber::None => true,
-            MaybeNumber::Some(m) => false,
-        },
-        MaybeNumber::Some(n) => match b {
-            MaybeNumber::None => false,
-            MaybeNumber::Some(m) => n == m,
-        },
+        self.router.map(|router| Route {
+            network: 0,
+            prefix: 0,
+            router,
+            dhcp: true,
+        })
     }
 }

@@ -10,14 +10,13 @@ mod address;
 mod apply;
 mod lookup;
 mod manual;
-mod outcome;
 mod route;
+mod table;
 mod tables;
 
 pub use address::{AddrTable, IfaceAddr};
-pub use apply::{Applied, Installed, MaybeCidr, same_router};
-pub use lookup::{AddrAt, Count, Has, RouteAt};
+pub use apply::{Applied, Cidr, Installed};
 pub use manual::Changed;
-pub use outcome::Outcome;
 pub use route::{Route, RouteTable};
-pub use tables::{PREFIX_LIMIT, Tables};
+pub use table::{PREFIX_LIMIT, Table};
+pub use tables::Tables;

@@ -1,108 +1,74 @@
-// Look-ups in the tables; 9 where these are not whole.
+// Look-ups in the tables, refused as NotWhole (9) where these are not whole. Addresses and routes have
+// functions of their own, two lines each over Table: one for both would have to be handed the table.
+#![tactic(auto, unfolding(crate::proofs::Opened::opened))]
+
 ghost use Rattle.std.specs.Prelude.{◌≡◌};
+ghost use Rattle.tables.specs.Tables.{whole_tables};
+ghost use Rattle.tables.specs.Changes.{not_whole_unless};
 ghost use Rattle.tables.specs.Lookups.{addr_count, route_count, addr_at, route_at, has_addr, default_route_of};
 
 use crate::address::IfaceAddr;
 use crate::route::Route;
 use crate::tables::Tables;
-
-// How many, or the number of the refusal.
-#[derive(Clone, Copy)]
-pub enum Count {
-    Entries(usize),
-    Refused(u32),
-}
-
-// An entry, or that there is none, or the number of the refusal.
-#[derive(Clone, Copy)]
-pub enum AddrAt {
-    Absent,
-    Entry(IfaceAddr),
-    Refused(u32),
-}
-
-#[derive(Clone, Copy)]
-pub enum RouteAt {
-    Absent,
-    Entry(Route),
-    Refused(u32),
-}
-
-// Whether it is there, or the number of the refusal.
-#[derive(Clone, Copy)]
-pub enum Has {
-    No,
-    Yes,
-    Refused(u32),
-}
+use reasons::Refusal;
 
 impl Tables {
     // How many addresses there are.
-    pub fn addr_count(self) -> Count
+    pub fn addr_count(self) -> Result<usize, Refusal>
         ensures { result ≡ addr_count self }
     {
-        if !self.is_whole() {
-            return Count::Refused(9);
-        }
-        let addrs = self.ip_addrs;
-        Count::Entries(addrs.len())
+        self.whole()?;
+        Ok(self.ip_addrs.in_use().len())
     }
 
     // How many routes there are.
-    pub fn route_count(self) -> Count
+    pub fn route_count(self) -> Result<usize, Refusal>
         ensures { result ≡ route_count self }
     {
-        if !self.is_whole() {
-            return Count::Refused(9);
-        }
-        let routes = self.routes;
-        Count::Entries(routes.len())
+        self.whole()?;
+        Ok(self.routes.in_use().len())
     }
 
-    // The address at a place, counted from 0.
-    pub fn addr_at(self, place: usize) -> AddrAt
+    // The address at a place, counted from 0, if that is in use.
+    pub fn addr_at(self, place: usize) -> Result<Option<IfaceAddr>, Refusal>
         ensures { result ≡ addr_at self place }
     {
-        if !self.is_whole() {
-            return AddrAt::Refused(9);
-        }
-        let addrs = self.ip_addrs;
-        addrs.at(place)
+        self.whole()?;
+        Ok(self.ip_addrs.in_use().get(place).copied())
     }
 
-    // The route at a place, counted from 0.
-    pub fn route_at(self, place: usize) -> RouteAt
+    // The route at a place, counted from 0, if that is in use.
+    pub fn route_at(self, place: usize) -> Result<Option<Route>, Refusal>
         ensures { result ≡ route_at self place }
     {
-        if !self.is_whole() {
-            return RouteAt::Refused(9);
-        }
-        let routes = self.routes;
-        routes.at(place)
+        self.whole()?;
+        Ok(self.routes.in_use().get(place).copied())
     }
 
     // Whether an address is there, with any prefix, by hand or DHCP's.
-    pub fn has_ip_addr(self, address: u32) -> Has
+    pub fn has_ip_addr(self, address: u32) -> Result<bool, Refusal>
         ensures { result ≡ has_addr self address }
     {
-        if !self.is_whole() {
-            return Has::Refused(9);
-        }
-        let addrs = self.ip_addrs;
-        if addrs.has(address) {
-            return Has::Yes;
-        }
-        Has::No
+        self.whole()?;
+        Ok(self.ip_addrs.has(address))
     }
 
     // The first route to 0.0.0.0/0, with its router.
-    pub fn default_ipv4_route(self) -> RouteAt
+    pub fn default_ipv4_route(self) -> Result<Option<Route>, Refusal>
         ensures { result ≡ default_route_of self }
     {
-        if !self.is_whole() {
-            return RouteAt::Refused(9);
+        self.whole()?;
+        Ok(self.routes.default_route())
+    }
+
+    // Refuses tables that are not whole, as NotWhole (9).
+    pub(crate) fn whole(self) -> Result<(), Refusal>
+        ensures { result ≡ not_whole_unless (whole_tables self) }
+    {
+        if self.is_whole() {
+            Ok(())
+        } else {
+            Err(Refusal::NotWhole)
         }
-        let routes = self.routes;
-        routes.default_route()
     }
 }

@@ -1,17 +1,14 @@
 // The tables, empty and whole.
+#![tactic(auto, unfolding(crate::proofs::Opened::opened))]
+
 ghost use Rattle.std.specs.Prelude.{◌≡◌};
 ghost use Rattle.tables.specs.Tables.{empty_tables, whole_tables};
 
-use crate::address::{AddrTable, IfaceAddr};
-use crate::route::{Route, RouteTable};
+use crate::address::AddrTable;
+use crate::route::RouteTable;
+use crate::table::Table;
 
-// How many entries each table has room for.
-pub(crate) const PLACES: usize = 4;
-
-// Bits of an address.
-pub const PREFIX_LIMIT: u8 = 32;
-
-#[derive(Clone, Copy)]
+#[derive(Clone, Copy, Debug, PartialEq, Eq)]
 pub struct Tables {
     pub ip_addrs: AddrTable,
     pub routes: RouteTable,
@@ -25,36 +22,16 @@ impl Tables {
         ensures { result ≡ empty_tables }
     {
         Tables {
-            ip_addrs: AddrTable {
-                entries: [IfaceAddr {
-                    address: 0,
-                    prefix: 0,
-                    dhcp: false,
-                }; 4],
-                count: 0,
-            },
-            routes: RouteTable {
-                entries: [Route {
-                    network: 0,
-                    prefix: 0,
-                    router: 0,
-                    dhcp: false,
-                }; 4],
-                count: 0,
-            },
+            ip_addrs: Table::empty(),
+            routes: Table::empty(),
             config_generation: 0,
         }
     }
 
-    // Whether number 9 finds nothing here: no count over 4, no prefix in use over 32.
+    // Whether the tables are whole, which calls else refuse as NotWhole (9): no count over 4, no prefix in use over 32.
     pub fn is_whole(self) -> bool
         ensures { result ≡ whole_tables self }
     {
-        let addrs = self.ip_addrs;
-        let routes = self.routes;
-        if addrs.is_whole() {
-            return routes.is_whole();
-        }
-        false
+        self.ip_addrs.is_whole() && self.routes.is_whole()
     }
 }

@@ -1,108 +1,112 @@
-// Outcomes as the first line of an answer has them, but for its moment.
-use client::{Client, PollOutcome, ReplyOutcome, ResetOutcome};
-use sheet::forms::{CHANGED, CREATED, GOT, POLLED, PROCESSED, SENT, WAS_RESET};
-use sheet::rows::{AT_SENT, put_row};
-use tables::Outcome;
-use wire::Got;
+// Answers: the first line, what a poll sends, and the post as the call leaves it.
+use crate::post::Post;
+use client::{NotTaken, PollAnswer};
+use clock::Instant;
+use reasons::Refusal;
+use sheet::lent::changed;
+use sheet::{Answer, Sheet};
+use wire::Place;
 
-pub fn created(outcome: Outcome) -> [u32; 16] {
-    first(CREATED, number_of(outcome), 0, 0, 0)
+// A poll that is refused is told with zeros (docs/TRACE.md): its lines have no gap for none.
+const REFUSED: PollAnswer = PollAnswer {
+    length: 0,
+    source: 0,
+    destination: 0,
+    wake: Instant { millis: 0 },
+    purge: false,
+};
+
+impl Post {
+    pub fn answer_new(&self, outcome: Result<(), Refusal>, sheet: &mut Sheet<'_>) {
+        sheet.write(Answer::Created, &[self.moment(), number_of(outcome)]);
+        self.tell_settings(sheet);
+        self.tell(sheet);
+    }
+
+    // With what was sent, and the lent buffer up to the last octet that is not as it was lent. The buffer and what filled it are the
+    // call's, and stay beside the post, whose parts records set.
+    pub fn answer_poll(
+        &self,
+        outcome: Result<PollAnswer, Refusal>,
+        lent: &[u8],
+        fill: u8,
+        sheet: &mut Sheet<'_>,
+    ) {
+        let answer = outcome.unwrap_or(REFUSED);
+        sheet.write(
+            Answer::Polled,
+            &[
+                self.moment(),
+                number_of(outcome),
+                answer.wake.millis.into(),
+                answer.purge.into(),
+            ],
+        );
+        sheet.write(
+            Answer::Sent,
+            &[
+                answer.length as u64,
+                answer.source.into(),
+                answer.destination.into(),
+            ],
+        );
+        let written = changed(lent, fill).max(answer.length);
+        sheet.write_octets(Answer::Buffer, &[0, written as u64], lent);
+        self.tell(sheet);
+    }
+
+    pub fn answer_process(&self, outcome: Result<bool, NotTaken>, sheet: &mut Sheet<'_>) {
+        self.answer_purge(Answer::Processed, outcome, sheet);
+    }
+
+    pub fn answer_reset(&self, outcome: Result<bool, Refusal>, sheet: &mut Sheet<'_>) {
+        self.answer_purge(Answer::WasReset, outcome, sheet);
+    }
+
+    // Whether link state is to be purged.
+    fn answer_purge<E: Copy + Into<u32>>(
+        &self,
+        form: Answer,
+        outcome: Result<bool, E>,
+        sheet: &mut Sheet<'_>,
+    ) {
+        let purge = outcome.unwrap_or(false);
+        sheet.write(form, &[self.moment(), number_of(outcome), purge.into()]);
+        self.tell(sheet);
+    }
+
+    // A manual change of the tables.
+    pub fn answer_change(&self, outcome: Result<(), Refusal>, sheet: &mut Sheet<'_>) {
+        sheet.write(Answer::Changed, &[self.moment(), number_of(outcome)]);
+        self.tell(sheet);
+    }
+
+    // Where a stored option is, if it is.
+    pub fn answer_get(&self, outcome: Result<Option<Place>, Refusal>, sheet: &mut Sheet<'_>) {
+        let found = outcome.unwrap_or(None);
+        let (start, len) = found.map_or((0, 0), |place| (place.start, place.len));
+        sheet.write(
+            Answer::Got,
+            &[
+                self.moment(),
+                number_of(outcome),
+                found.is_some().into(),
+                start as u64,
+                len as u64,
+            ],
+        );
+        self.tell(sheet);
+    }
+
+    fn moment(&self) -> u64 {
+        self.now.millis.into()
+    }
 }
 
-pub fn changed(outcome: Outcome) -> [u32; 16] {
-    first(CHANGED, number_of(outcome), 0, 0, 0)
-}
-
-fn number_of(outcome: Outcome) -> u32 {
+// 0, or the number of a refusal or of a reply that is passed over.
+fn number_of<T: Copy, E: Copy + Into<u32>>(outcome: Result<T, E>) -> u64 {
     match outcome {
-        Outcome::Done => 0,
-        Outcome::Refused(number) => number,
+        Ok(_) => 0,
+        Err(error) => u64::from(error.into()),
     }
-}
-
-pub fn polled(outcome: PollOutcome) -> [u32; 16] {
-    match outcome {
-        PollOutcome::Answered(a) => first(POLLED, 0, a.wake.millis, a.purge as u32, 0),
-        PollOutcome::Refused(number) => first(POLLED, number, 0, 0, 0),
-    }
-}
-
-// What a poll answers besides.
-pub fn put_sent(sheet: &mut [u8], outcome: PollOutcome) {
-    put_row(sheet, AT_SENT, sent(outcome));
-}
-
-fn sent(outcome: PollOutcome) -> [u32; 16] {
-    let mut words = first(SENT, 0, 0, 0, 0);
-    match outcome {
-        PollOutcome::Answered(a) => {
-            words[0] = (a.length % 4294967296) as u32;
-            words[1] = a.source;
-            words[2] = a.destination;
-        }
-        PollOutcome::Refused(_) => {}
-    }
-    words
-}
-
-pub fn processed(outcome: ReplyOutcome) -> [u32; 16] {
-    match outcome {
-        ReplyOutcome::Taken { purge } => first(PROCESSED, 0, purge as u32, 0, 0),
-        ReplyOutcome::PassedOver(number) => first(PROCESSED, number, 0, 0, 0),
-        ReplyOutcome::Refused(number) => first(PROCESSED, number, 0, 0, 0),
-    }
-}
-
-pub fn was_reset(outcome: ResetOutcome) -> [u32; 16] {
-    match outcome {
-        ResetOutcome::Done { purge } => first(WAS_RESET, 0, purge as u32, 0, 0),
-        ResetOutcome::Refused(number) => first(WAS_RESET, number, 0, 0, 0),
-    }
-}
-
-// The option in the lease's store, none in a state without a lease.
-pub fn got(client: Client, kind: u8) -> [u32; 16] {
-    let session = client.session;
-    let state = session.state;
-    let lease = client.lease;
-    let options = lease.options;
-    if state.has_lease() {
-        return found(options.get(kind));
-    }
-    found(Got::Absent)
-}
-
-fn found(got: Got) -> [u32; 16] {
-    match got {
-        Got::Absent => first(GOT, 0, 0, 0, 0),
-        Got::At { place, len } => first(
-            GOT,
-            0,
-            1,
-            (place % 4294967296) as u32,
-            (len % 4294967296) as u32,
-        ),
-        Got::Refused(number) => first(GOT, number, 0, 0, 0),
-    }
-}
-
-fn first(form: usize, number: u32, a: u32, b: u32, c: u32) -> [u32; 16] {
-    [
-        0,
-        number,
-        a,
-        b,
-        c,
-        0,
-        0,
-        0,
-        0,
-        0,
-        0,
-        0,
-        0,
-        0,
-        0,
-        (form % 256) as u32,
-    ]
 }

@@ -1,7 +1,10 @@
-// A post on a sheet: client, tables and generator made from its rows, and told there.
+// The post: client, tables, generator and moment, as records set them and answers tell them.
 
 #![tactic(auto)]
 
 pub mod answer;
-pub mod made;
-pub mod told;
+mod made;
+pub mod post;
+mod told;
+
+pub use post::Post;

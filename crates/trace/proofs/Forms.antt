@@ -1,112 +1,122 @@
 -- Laws of forms and of what their parts take of a text. Assumes nothing.
-use Prim.Native.Nat.{ℕ, ◌*◌, ◌≤◌, ◌<◌}
-use mathlib.Core.Bool.{Bool, true, false, true≢false}
-use mathlib.Core.Path.{◌≡◌, refl, ap}
-use mathlib.Core.List.{List, [], ◌∷◌}
-use native.Mathlib.Omega.{arith}
-use lib.ListN.{length, get_or, drop, get_or-eq_default}
-use lib.Dec.{eqb, leb}
-use borrow.Author.Tests.{eq-eqb, ne_eqb, eqb-false}
-use Rattle.choice.specs.Choice.{when◌then◌else◌}
+use Rattle.std.proofs.Common.{◌≡◌, ◌≢◌, ℕ, ◌+◌, ◌-◌, ◌*◌, ◌≤◌, ◌<◌, Bool, true, false, List, [], ◌∷◌, length, get_or, take, drop, leb, refl, sym, ap, arith, Option, None, Some, Result, Ok, Err}
+use Rattle.std.specs.Prelude.{if◌then◌else◌}
+use borrow.Author.Tests.{eq-eqb, ne_eqb}
+use Rattle.octets.proofs.Runs.{part_tail}
+use Rattle.trace.specs.declared.number.Number.{Number}
+use Rattle.trace.specs.declared.form.Gap as kinds
+use Rattle.trace.specs.declared.form.Gap.TheVariants as kind
+use Rattle.trace.specs.declared.form.Part.{Part}
+use Rattle.trace.specs.declared.form.Part.TheVariants.{Letter, Gap}
+use Rattle.trace.specs.declared.taken.Taken.{Taken}
+use Rattle.trace.specs.declared.taken.Taken.TheVariants as what
 use Rattle.trace.specs.Lines.{starts_with}
 use Rattle.trace.specs.Digits.{pairs_of}
-use Rattle.trace.specs.Numbers.{decimal, dotted, address, size_of}
-use Rattle.trace.specs.Forms.{percent, char_a, char_x, Part, letter, gap, parts_of, limit_of, number_of, of_number, octets_taken, gap_taken, letter_taken, taken, head_part, part_size}
-use Rattle.trace.specs.declared.number.Number.{Number}
-use Rattle.trace.specs.declared.number.Number.TheVariants as number
-use Rattle.trace.specs.declared.gap.Limit.{Limit}
-use Rattle.trace.specs.declared.gap.Limit.TheVariants.{Unknown, Most}
-use Rattle.trace.specs.declared.gap.Taken.{Taken}
-use Rattle.trace.specs.declared.gap.Taken.TheVariants.{Stopped, Letter, Value, Octets}
+use Rattle.trace.specs.Numbers.{decimal, number_at, dotted, address}
+use Rattle.trace.specs.Gaps.{gap_of, limit_of}
+use Rattle.trace.specs.Forms.{parts_of, limited, of_number, octets_taken, gap_taken, letter_taken, taken, taken_len}
 use Rattle.trace.proofs.Digits.{pairs_inside}
-use Rattle.trace.proofs.Numbers.{bounded_decimal, bounded_dotted, starts_inside}
+use Rattle.trace.proofs.Numbers.{decimal_bounds, dotted_bounds, dotted_stop, starts_inside}
 
--- the number of a gap that is no address
-pub number_by : (kind : ℕ) (t : List ℕ) {l : Limit} → (kind ≡ char_a → ⊥) → limit_of kind ≡ l
-    → number_of kind t ≡ elim l [ Most most ↦ decimal most t | Unknown ↦ number.Stopped 0 ]
-unfolding number_of when◌then◌else◌
-number_by kind t n e = simp (ne_eqb kind char_a n) (ap (λ (m : Limit). elim m [ Most most ↦ decimal most t | Unknown ↦ number.Stopped 0 ]) e)
+pub parts_letter : (f : List ℕ) → 0 < length f → get_or f 0 0 ≢ 37 → parts_of f ≡ Letter (get_or f 0 0) ∷ parts_of (take (length f - 1) (drop 1 f))
+unfolding parts_of
+parts_letter [] h n = absurd (omega arith)
+parts_letter (s ∷ []) h n = simp (ne_eqb s 37 n)
+parts_letter (s ∷ kind ∷ f) h n = simp (ne_eqb s 37 n) (ap (λ (l : List ℕ). Letter s ∷ parts_of l) (sym (part_tail 1 (s ∷ kind ∷ f))))
 
--- the first part of a form
-pub head_letter : (f : List ℕ) → (get_or f 0 0 ≡ percent → ⊥) → head_part f ≡ letter (get_or f 0 0)
-unfolding head_part when◌then◌else◌
-head_letter f n = simp (ne_eqb _ _ n)
+pub parts_gap : (f : List ℕ) → 1 < length f → get_or f 0 0 ≡ 37 → parts_of f ≡ Gap (gap_of (get_or f 1 0)) ∷ parts_of (take (length f - 2) (drop 2 f))
+unfolding parts_of
+parts_gap [] h e = absurd (omega arith)
+parts_gap (s ∷ []) h e = absurd (omega arith)
+parts_gap (s ∷ kind ∷ f) h e = simp (eq-eqb s 37 e) (ap (λ (l : List ℕ). Gap (gap_of kind) ∷ parts_of l) (sym (part_tail 2 (s ∷ kind ∷ f))))
 
-pub head_gap : (f : List ℕ) → get_or f 0 0 ≡ percent → head_part f ≡ gap (get_or f 1 0)
-unfolding head_part when◌then◌else◌
-head_gap f e = simp (eq-eqb _ _ e)
+pub parts_cut : (f : List ℕ) → length f ≡ 1 → get_or f 0 0 ≡ 37 → parts_of f ≡ Gap kind.Unknown ∷ parts_of []
+unfolding parts_of
+parts_cut [] h e = absurd (omega arith)
+parts_cut (s ∷ []) h e = simp (eq-eqb s 37 e)
+parts_cut (s ∷ kind ∷ f) h e = absurd (omega arith)
 
--- there is no gap of no kind
-pub head_cut : (f t : List ℕ) → get_or f 0 0 ≡ percent → length f ≡ 1 → taken (head_part f) t ≡ Stopped 0
-unfolding gap_taken number_of limit_of when◌then◌else◌
-head_cut f t e h = rw (head_gap f e, get_or-eq_default f 0 {n = 1} (omega arith))
+pub parts_none : (f : List ℕ) → length f ≡ 0 → parts_of f ≡ []
+unfolding parts_of
+parts_none [] h = refl
+parts_none (s ∷ f) h = absurd (omega arith)
 
-pub parts_step : (f : List ℕ) → 0 < length f → parts_of f ≡ head_part f ∷ parts_of (drop (part_size f) f)
-unfolding parts_of head_part part_size when◌then◌else◌
-parts_step [] h = absurd (omega arith)
-parts_step (s ∷ []) h = by (eqb s percent)
+-- ---- what a part takes stands in the text
+abbrev pub taken_end : Result Taken ℕ → ℕ
+taken_end (Err n) = n
+taken_end (Ok what) = taken_len what
+
+abbrev number_end : Result Number ℕ → ℕ
+number_end (Err n) = n
+number_end (Ok number) = number.len
+
+number_inside : (most : ℕ) (t : List ℕ) → number_end (number_at 0 (decimal most t)) ≤ length t
+number_inside most t = by (decimal most t) refl
   where
-    by : (b : Bool) → (when b then gap 0 else letter s) ∷ [] ≡ (when b then gap 0 else letter s) ∷ parts_of (drop (when b then 1 else 1) (s ∷ []))
-    by true = refl
-    by false = refl
-parts_step (s ∷ kind ∷ f) h = by (eqb s percent) (eqb (length (s ∷ kind ∷ f)) 1) (ne_eqb (length (s ∷ kind ∷ f)) 1 (λ e. omega arith))
+    by : (m : Option Number) → decimal most t ≡ m → number_end (number_at 0 m) ≤ length t
+    by None e = omega arith
+    by (Some n) e = (decimal_bounds most t (sym e)).1
+
+-- a number that is read, or where reading stops, is within bounds
+abbrev Within : ℕ → ℕ → Result Number ℕ → Type 0
+Within most last (Err n) = n ≤ last
+Within most last (Ok number) = (number.value ≤ most) × (number.len ≤ last)
+
+first_within : (t : List ℕ) → Within 255 (length t) (number_at 0 (decimal 255 t))
+first_within t = by (decimal 255 t) refl
   where
-    by : (b d : Bool) → d ≡ false
-        → (when b then gap kind ∷ parts_of f else letter s ∷ parts_of (kind ∷ f)) ≡ (when b then gap kind else letter s) ∷ parts_of (drop (when b then (when d then 1 else 2) else 1) (s ∷ kind ∷ f))
-    by true false e = refl
-    by true true e = absurd (true≢false e)
-    by false d e = refl
+    by : (m : Option Number) → decimal 255 t ≡ m → Within 255 (length t) (number_at 0 m)
+    by None e = omega arith
+    by (Some n) e = decimal_bounds 255 t (sym e)
 
-pub part_size_lem : (f : List ℕ) → 0 < length f → (0 < part_size f) × (part_size f ≤ length f)
-unfolding part_size when◌then◌else◌
-part_size_lem f h = by (eqb (get_or f 0 0) percent) (eqb (length f) 1) refl
+dotted_within : (m : ℕ) (t : List ℕ) (n : Result Number ℕ) → Within m (length t) n → Within (m * 256 + 255) (length t) (dotted t n)
+dotted_within m t (Err n) b = b
+dotted_within m t (Ok high) b = by (dotted t (Ok high)) refl
   where
-    by : (b d : Bool) → eqb (length f) 1 ≡ d → (0 < (when b then (when d then 1 else 2) else 1)) × ((when b then (when d then 1 else 2) else 1) ≤ length f)
-    by true true e = (omega arith, omega arith)
-    by true false e = (omega arith, omega (arith, eqb-false (length f) 1 e))
-    by false d e = (omega arith, omega arith)
+    by : (r : Result Number ℕ) → dotted t (Ok high) ≡ r → Within (m * 256 + 255) (length t) r
+    by (Err n) e = dotted_stop t high b.1 (sym e)
+    by (Ok n) e = dotted_bounds m t high b.0 b.1 (sym e)
 
--- how many characters of a text are taken, or stand before the fault
-abbrev pub taken_size : Taken → ℕ
-taken_size (Stopped n) = n
-taken_size Letter = 1
-taken_size (Value value n) = n
-taken_size (Octets n) = 2 * n
-
-address_inside : (t : List ℕ) → size_of (address t) ≤ length t
+address_inside : (t : List ℕ) → number_end (address t) ≤ length t
 unfolding address
-address_inside t = (bounded_dotted _ t (dotted t (dotted t (decimal 255 t))) (bounded_dotted _ t (dotted t (decimal 255 t)) (bounded_dotted 255 t (decimal 255 t) (bounded_decimal 255 t)))).size
-
-number_inside : (kind : ℕ) (t : List ℕ) → size_of (number_of kind t) ≤ length t
-unfolding number_of when◌then◌else◌
-number_inside kind t = by (eqb kind char_a) (limit_of kind)
+address_inside t = by (address t) (dotted_within 16777215 t _ (dotted_within 65535 t _ (dotted_within 255 t _ (first_within t))))
   where
-    by : (b : Bool) (l : Limit) → size_of (when b then address t else elim l [ Most most ↦ decimal most t | Unknown ↦ number.Stopped 0 ]) ≤ length t
-    by true l = address_inside t
-    by false (Most most) = (bounded_decimal most t).size
-    by false Unknown = omega arith
+    by : (r : Result Number ℕ) → Within 4294967295 (length t) r → number_end r ≤ length t
+    by (Err n) w = w
+    by (Ok n) w = w.1
 
-of_number_size : (n : Number) → taken_size (of_number n) ≡ size_of n
-of_number_size (number.Stopped n) = refl
-of_number_size (number.Read value n) = refl
+limited_inside : (limit : Option ℕ) (t : List ℕ) → number_end (limited limit t) ≤ length t
+limited_inside None t = omega arith
+limited_inside (Some most) t = number_inside most t
 
-gap_inside : (kind : ℕ) (t : List ℕ) → taken_size (gap_taken kind t) ≤ length t
-unfolding gap_taken octets_taken when◌then◌else◌
-gap_inside kind t = by (eqb kind char_x) (leb (pairs_of t) 65535)
+of_number_end : (n : Result Number ℕ) → taken_end (of_number n) ≡ number_end n
+of_number_end (Err n) = refl
+of_number_end (Ok number) = refl
+
+octets_inside : (t : List ℕ) → taken_end (octets_taken t) ≤ length t
+unfolding octets_taken
+octets_inside t = by (leb (pairs_of t) 65535)
   where
-    by : (b d : Bool) → taken_size (when b then (when d then Octets (pairs_of t) else Stopped 0) else of_number (number_of kind t)) ≤ length t
-    by true true = pairs_inside t
-    by true false = omega arith
-    by false d = omega (arith, of_number_size (number_of kind t), number_inside kind t)
+    by : (b : Bool) → taken_end (if b then Ok (what.Octets (pairs_of t)) else Err 0) ≤ length t
+    by true = pairs_inside t
+    by false = omega arith
 
-letter_inside : (s : ℕ) (t : List ℕ) → taken_size (letter_taken s t) ≤ length t
-unfolding letter_taken when◌then◌else◌
+other_inside : (g : kinds.Gap) (t : List ℕ) → taken_end (of_number (limited (limit_of g) t)) ≤ length t
+other_inside g t = omega (arith, of_number_end (limited (limit_of g) t), limited_inside (limit_of g) t)
+
+gap_inside : (g : kinds.Gap) (t : List ℕ) → taken_end (gap_taken g t) ≤ length t
+gap_inside kind.Octets t = octets_inside t
+gap_inside kind.Address t = omega (arith, of_number_end (address t), address_inside t)
+gap_inside g t = other_inside g t
+
+letter_inside : (s : ℕ) (t : List ℕ) → taken_end (letter_taken s t) ≤ length t
+unfolding letter_taken
 letter_inside s t = by (starts_with s t) refl
   where
-    by : (b : Bool) → starts_with s t ≡ b → taken_size (when b then Letter else Stopped 0) ≤ length t
+    by : (b : Bool) → starts_with s t ≡ b → taken_end (if b then Ok what.Letter else Err 0) ≤ length t
     by true e = starts_inside s 0 t e
     by false e = omega arith
 
-pub taken_inside : (part : Part) (t : List ℕ) → taken_size (taken part t) ≤ length t
-taken_inside (letter s) t = letter_inside s t
-taken_inside (gap kind) t = gap_inside kind t
+pub taken_inside : (part : Part) (t : List ℕ) → taken_end (taken part t) ≤ length t
+taken_inside (Letter s) t = letter_inside s t
+taken_inside (Gap g) t = gap_inside g t

@@ -1,86 +1,57 @@
 -- Laws of lines. Assumes nothing.
-use Prim.Native.Nat.{ℕ, suc, ◌-◌, ◌≤◌, ◌<◌}
-use mathlib.Core.Bool.{Bool, true, false}
-use mathlib.Core.Path.{◌≡◌, refl, sym, ap, ◌∙◌}
-use mathlib.Core.List.{List, [], ◌∷◌}
-use native.Mathlib.Omega.{arith}
-use lib.ListN.{length, get_or, take, drop, drop_of_length-le}
-use lib.Dec.{eqb}
+use Rattle.std.proofs.Common.{◌≡◌, ◌≢◌, ℕ, suc, ◌+◌, ◌≤◌, ◌<◌, Bool, true, false, List, [], ◌∷◌, length, take, drop, eqb, refl, ◌∙◌, arith}
+use Rattle.std.specs.Cmp.Lexicographic.{pointwise}
+use Rattle.std.specs.List.{slice_range}
+use Rattle.std.specs.Prelude.{if◌then◌else◌, ◌&&◌}
+use lib.ListN.{drop_of_length-le}
 use borrow.Author.Tests.{eq-eqb, ne_eqb}
-use Rattle.choice.specs.Choice.{when◌then◌else◌}
+use Rattle.std.proofs.lemmas.Bool.Decides.{nat_tests}
 use Rattle.octets.proofs.Runs.{part_tail}
 use Rattle.trace.specs.Lines.{line_length, line_at, begins_with, starts_with}
 
 -- a line by its first character
-pub line_end_lem : (t : List ℕ) → 0 < length t → get_or t 0 0 ≡ 10 → line_length t ≡ 0
-unfolding line_length when◌then◌else◌
-line_end_lem [] h e = absurd (omega arith)
-line_end_lem (c ∷ t) h e = simp (eq-eqb c 10 e)
-
-pub line_more : (t : List ℕ) → 0 < length t → (get_or t 0 0 ≡ 10 → ⊥) → line_length t ≡ suc (line_length (drop 1 t))
-unfolding line_length when◌then◌else◌
-line_more [] h e = absurd (omega arith)
-line_more (c ∷ t) h e = simp (ne_eqb c 10 e)
-
-pub line_none : (t : List ℕ) → length t ≤ 0 → line_length t ≡ 0
+pub line_hit : (c : ℕ) (t : List ℕ) → c ≡ 10 → line_length (c ∷ t) ≡ 0
 unfolding line_length
-line_none [] h = refl
-line_none (c ∷ t) h = absurd (omega arith)
+line_hit c t e = simp (eq-eqb c 10 e)
+
+pub line_miss : (c : ℕ) (t : List ℕ) → c ≢ 10 → line_length (c ∷ t) ≡ line_length t + 1
+unfolding line_length
+line_miss c t n = simp (ne_eqb c 10 n) (omega arith)
+
+pub line_none : line_length [] ≡ 0
+unfolding line_length
+line_none = refl
 
 -- a line is within its text
-longer : (b : Bool) (n m : ℕ) → n ≤ m → (when b then 0 else suc n) ≤ suc m
-unfolding when◌then◌else◌
-longer true n m h = omega arith
-longer false n m h = omega arith
-
-within : (t : List ℕ) → line_length t ≤ length t
+pub line_inside : (t : List ℕ) → line_length t ≤ length t
 unfolding line_length
-within [] = omega arith
-within (c ∷ t) = longer (eqb c 10) (line_length t) (length t) (within t)
+line_inside [] = omega arith
+line_inside (c ∷ t) = by (eqb c 10) (line_inside t)
+  where
+    by : (b : Bool) → line_length t ≤ length t → (if b then 0 else suc (line_length t)) ≤ suc (length t)
+    by true h = omega arith
+    by false h = omega arith
 
-pub line_inside : (t : List ℕ) (n : ℕ) → n ≡ line_length t → n ≤ length t
-line_inside t n e = omega (arith, within t)
+-- `&t[at..]`
+pub rest_range : (at : ℕ) (t r : List ℕ) → r ≡ slice_range t at (length t) → r ≡ drop at t
+rest_range at t r e = e ∙ part_tail at t
 
--- the line at a place: none behind the text, else the start of what `&t[at..]` is
-pub line_past : (at : ℕ) (t : List ℕ) → length t < at → [] ≡ line_at at t
+-- a start, as std has it
+pub begins_lem : (start line : List ℕ) → pointwise eqb start (take (length start) line) ≡ begins_with start line
+unfolding begins_with
+begins_lem [] line = refl
+begins_lem (s ∷ start) [] = refl
+begins_lem (s ∷ start) (c ∷ line) = by (eqb s c) (begins_lem start line)
+  where
+    by : (b : Bool) → pointwise eqb start (take (length start) line) ≡ begins_with start line → b && pointwise eqb start (take (length start) line) ≡ (if b then begins_with start line else false)
+    by true h = h
+    by false h = refl
+
+pub starts_lem : (s : ℕ) (t : List ℕ) → pointwise eqb (s ∷ []) (take 1 t) ≡ starts_with s t
+unfolding starts_with
+starts_lem s [] = refl
+starts_lem s (c ∷ t) = grind (arith, nat_tests)
+
+pub line_past : (at : ℕ) (t : List ℕ) → length t < at → line_at at t ≡ []
 unfolding line_at line_length
-line_past at t h = ap (λ (l : List ℕ). take (line_length l) l) (sym (drop_of_length-le t {i = at} (omega arith)))
-
-pub line_there : (at n : ℕ) (t : List ℕ) → n ≡ line_length (take (length t - at) (drop at t)) → take n (take (length t - at) (drop at t)) ≡ line_at at t
-unfolding line_at
-line_there at n t e = λ k. take ((e ∙ ap line_length (part_tail at t)) k) (part_tail at t k)
-
--- a start by its first character
-pub begins_short : (x y : List ℕ) → 0 < length x → length y ≡ 0 → begins_with x y ≡ false
-unfolding begins_with
-begins_short [] y h k = absurd (omega arith)
-begins_short (a ∷ x) [] h k = refl
-begins_short (a ∷ x) (b ∷ y) h k = absurd (omega arith)
-
-pub begins_other : (x y : List ℕ) → 0 < length x → (length y ≡ 0 → ⊥) → (get_or x 0 0 ≡ get_or y 0 0 → ⊥) → begins_with x y ≡ false
-unfolding begins_with when◌then◌else◌
-begins_other [] y h k e = absurd (omega arith)
-begins_other (a ∷ x) [] h k e = absurd (omega arith)
-begins_other (a ∷ x) (b ∷ y) h k e = simp (ne_eqb a b e)
-
-pub begins_more : (x y : List ℕ) → 0 < length x → (length y ≡ 0 → ⊥) → get_or x 0 0 ≡ get_or y 0 0 → begins_with x y ≡ begins_with (drop 1 x) (drop 1 y)
-unfolding begins_with when◌then◌else◌
-begins_more [] y h k e = absurd (omega arith)
-begins_more (a ∷ x) [] h k e = absurd (omega arith)
-begins_more (a ∷ x) (b ∷ y) h k e = simp (eq-eqb a b e)
-
-pub begins_all : (x y : List ℕ) → length x ≤ 0 → begins_with x y ≡ true
-unfolding begins_with
-begins_all [] y h = refl
-begins_all (a ∷ x) y h = absurd (omega arith)
-
--- the first character of a text
-pub starts_none : (c : ℕ) (t : List ℕ) → length t ≡ 0 → starts_with c t ≡ false
-unfolding starts_with
-starts_none c [] h = refl
-starts_none c (x ∷ t) h = absurd (omega arith)
-
-pub starts_first : (c : ℕ) (t : List ℕ) → (length t ≡ 0 → ⊥) → starts_with c t ≡ eqb (get_or t 0 0) c
-unfolding starts_with
-starts_first c [] h = absurd (omega arith)
-starts_first c (x ∷ t) h = refl
+line_past at t h = rw (drop_of_length-le t {i = at} (omega arith))

@@ -1,79 +1,93 @@
 -- Laws of numbers and addresses. Assumes nothing.
-use Prim.Native.Nat.{ℕ, suc, ◌+◌, ◌-◌, ◌*◌, ◌≤◌, ◌<◌}
-use mathlib.Core.Bool.{Bool, true, false, true≢false}
-use mathlib.Core.Path.{◌≡◌, refl, sym, ap, subst, ◌∙◌}
-use mathlib.Core.List.{List, [], ◌∷◌}
-use native.Mathlib.Omega.{arith}
-use lib.ListN.{length, get_or, take, drop, length-drop}
-use lib.Dec.{ltb, leb}
-use borrow.Author.Tests.{lt-ltb, le-ltb, le-leb, lt-leb, eq-eqb, ne_eqb, leb-true, ltb-true, ltb-false}
-use Rattle.choice.proofs.Choices.{if_true, if_false}
+use Rattle.std.proofs.Common.{◌≡◌, ◌≢◌, ℕ, suc, ◌+◌, ◌-◌, ◌*◌, ◌≤◌, ◌<◌, Bool, true, false, List, [], ◌∷◌, length, get_or, take, drop, length-drop, refl, sym, ap, ◌∙◌, arith, leb, eqb, Option, None, Some, Ok, Err}
+use Rattle.std.specs.Prelude.{if◌then◌else◌, nat_lt, is_some, is_none, not, option_and_then}
+use mathlib.Core.Bool.{true≢false}
+use Rattle.std.proofs.lemmas.Bool.Decides.{nat_tests}
+use Rattle.std.proofs.lemmas.List.{at_drop_more, at_drop_all}
+use borrow.Author.Tests.{le-leb, lt-leb, eq-eqb, ne_eqb, leb-true}
+use Rattle.std.specs.Cmp.Lexicographic.{pointwise}
+use Rattle.std.proofs.Math.Seq.{drop-drop}
 use Rattle.octets.proofs.Runs.{part_tail}
-use Rattle.choice.specs.Choice.{when◌then◌else◌}
 use Rattle.trace.specs.Lines.{starts_with}
-use Rattle.trace.specs.Digits.{digit_of}
-use Rattle.trace.specs.Numbers.{digits_of, number_from, proper, within, decimal, joined, dot, dotted, Bounded}
+use Rattle.trace.specs.Digits.{digit_of, decimal_digit_of}
+use Rattle.trace.specs.Numbers.{digits_of, number_from, proper, upto, within, decimal, joined, dot, dotted, number_at, address}
 use Rattle.trace.specs.declared.number.Number.{Number}
-use Rattle.trace.specs.declared.number.Number.TheVariants.{Stopped, Read}
 
 -- ---- the digits of a text, by its first character
-pub digits_none : (t : List ℕ) → length t ≤ 0 → digits_of t ≡ []
+digits_by : (c : ℕ) (t : List ℕ) {m : Option ℕ} → decimal_digit_of c ≡ m → digits_of (c ∷ t) ≡ elim m [ None ↦ [] | Some d ↦ d ∷ digits_of t ]
 unfolding digits_of
-digits_none [] h = refl
-digits_none (c ∷ t) h = absurd (omega arith)
+digits_by c t e = ap (λ (m : Option ℕ). elim m [ None ↦ [] | Some d ↦ d ∷ digits_of t ]) e
 
-pub digits_end : (t : List ℕ) → 0 < length t → 10 ≤ digit_of (get_or t 0 0) → digits_of t ≡ []
-unfolding digits_of when◌then◌else◌
-digits_end [] h k = absurd (omega arith)
-digits_end (c ∷ t) h k = simp (le-ltb _ _ k)
+pub digits_end : (c : ℕ) (t : List ℕ) → decimal_digit_of c ≡ None → digits_of (c ∷ t) ≡ []
+digits_end c t e = digits_by c t e
 
-pub digits_more : (t : List ℕ) → 0 < length t → digit_of (get_or t 0 0) < 10 → digits_of t ≡ digit_of (get_or t 0 0) ∷ digits_of (drop 1 t)
-unfolding digits_of when◌then◌else◌
-digits_more [] h k = absurd (omega arith)
-digits_more (c ∷ t) h k = simp (lt-ltb _ _ k)
+pub digits_more : (c d : ℕ) (t : List ℕ) → decimal_digit_of c ≡ Some d → digits_of (c ∷ t) ≡ d ∷ digits_of t
+digits_more c d t e = digits_by c t e
 
 digits_length : (t : List ℕ) → length (digits_of t) ≤ length t
-unfolding digits_of when◌then◌else◌
+unfolding digits_of
 digits_length [] = omega arith
-digits_length (c ∷ t) = by (ltb (digit_of c) 10) (digits_length t)
+digits_length (c ∷ t) = by (decimal_digit_of c) (digits_length t)
   where
-    by : (b : Bool) → length (digits_of t) ≤ length t → length (when b then digit_of c ∷ digits_of t else []) ≤ suc (length t)
-    by true h = omega arith
-    by false h = omega arith
+    by : (m : Option ℕ) → length (digits_of t) ≤ length t → length {A = ℕ} (elim m [ None ↦ [] | Some d ↦ d ∷ digits_of t ]) ≤ suc (length t)
+    by None h = omega arith
+    by (Some d) h = omega arith
 
 -- ---- whether they write a number
-proper_nonzero : (d : ℕ) (ds : List ℕ) → 0 < d → proper (d ∷ ds) ≡ true
-unfolding proper when◌then◌else◌
-proper_nonzero d [] h = refl
-proper_nonzero d (e ∷ ds) h = simp (ne_eqb d 0 (λ q. omega arith))
-
 pub proper_none : (t : List ℕ) → length t ≡ 0 → proper (digits_of t) ≡ false
-unfolding proper
-proper_none t h = rw (digits_none t (omega arith))
+unfolding proper digits_of
+proper_none [] h = refl
+proper_none (c ∷ t) h = absurd (omega arith)
 
-pub proper_end : (t : List ℕ) → (length t ≡ 0 → ⊥) → 10 ≤ digit_of (get_or t 0 0) → proper (digits_of t) ≡ false
-unfolding proper
-proper_end t h k = rw (digits_end t (omega arith) k)
-
-pub proper_plain : (t : List ℕ) → (length t ≡ 0 → ⊥) → digit_of (get_or t 0 0) < 10 → 0 < digit_of (get_or t 0 0) → proper (digits_of t) ≡ true
-proper_plain t h k p = rw (digits_more t (omega arith) k) (proper_nonzero _ _ p)
-
-pub proper_one : (t : List ℕ) → length t ≡ 1 → digit_of (get_or t 0 0) < 10 → proper (digits_of t) ≡ true
-unfolding proper
-proper_one t h k = rw (digits_more t (omega arith) k, digits_none (drop 1 t) (simp length-drop (omega arith)))
-
-proper_second : (d : ℕ) (t : List ℕ) → d ≡ 0 → (length t ≡ 0 → ⊥) → proper (d ∷ digits_of t) ≡ leb 10 (digit_of (get_or t 0 0))
-unfolding proper digits_of when◌then◌else◌
-proper_second d [] z h = absurd (omega arith)
-proper_second d (c ∷ t) z h = by (ltb (digit_of c) 10) refl
+-- after a zero there is none
+proper_after : (d : ℕ) (t : List ℕ) → d ≡ 0 → 0 < length t → proper (d ∷ digits_of t) ≡ is_none (decimal_digit_of (get_or t 0 0))
+unfolding proper digits_of
+proper_after d [] z h = absurd (omega arith)
+proper_after d (c ∷ t) z h = by (decimal_digit_of c)
   where
-    by : (b : Bool) → ltb (digit_of c) 10 ≡ b → proper (d ∷ (when b then digit_of c ∷ digits_of t else [])) ≡ leb 10 (digit_of c)
-    by true e = simp (eq-eqb d 0 z) (sym (lt-leb 10 (digit_of c) (ltb-true _ _ e)))
-    by false e = sym (le-leb 10 (digit_of c) (ltb-false _ _ e))
+    by : (m : Option ℕ) → proper (d ∷ elim m [ None ↦ [] | Some e ↦ e ∷ digits_of t ]) ≡ is_none m
+    by None = refl
+    by (Some e) = simp (eq-eqb d 0 z)
 
-pub proper_zero : (t : List ℕ) → (length t ≡ 0 → ⊥) → (length t ≡ 1 → ⊥) → digit_of (get_or t 0 0) < 10 → digit_of (get_or t 0 0) ≤ 0 → proper (digits_of t) ≡ leb 10 (digit_of (get_or t 1 0))
-proper_zero [] g h k z = absurd (omega arith)
-proper_zero (a ∷ t) g h k z = ap proper (digits_more (a ∷ t) (omega arith) k) ∙ proper_second (digit_of a) t (omega arith) (λ q. h (omega arith))
+zero_digit : decimal_digit_of 48 ≡ Some 0
+unfolding decimal_digit_of digit_of
+zero_digit = refl
+
+pub proper_zero : (t : List ℕ) → 2 ≤ length t → get_or t 0 0 ≡ 48 → proper (digits_of t) ≡ is_none (decimal_digit_of (get_or t 1 0))
+proper_zero [] h e = absurd (omega arith)
+proper_zero (c ∷ t) h e = ap proper (digits_more c 0 t (ap decimal_digit_of e ∙ zero_digit)) ∙ proper_after 0 t refl (omega arith)
+
+-- only that character is a zero
+zero_only : (c : ℕ) → c ≢ 48 → option_and_then (λ d. if nat_lt d 10 then Some d else None) (if nat_lt c 48 then None else if nat_lt c 58 then Some (c - 48) else if nat_lt c 97 then None else if nat_lt c 103 then Some (c - 87) else None) ≡ Some 0 → ⊥
+zero_only c n e = grind (arith, nat_tests)
+
+digit_zero : (c d : ℕ) → decimal_digit_of c ≡ Some d → c ≢ 48 → d ≢ 0
+unfolding decimal_digit_of digit_of
+digit_zero c d e n z = zero_only c n (e ∙ ap Some z)
+
+proper_nonzero : (d : ℕ) (ds : List ℕ) → d ≢ 0 → proper (d ∷ ds) ≡ true
+unfolding proper
+proper_nonzero d [] h = refl
+proper_nonzero d (e ∷ ds) h = simp (ne_eqb d 0 h)
+
+pub proper_other : (t : List ℕ) → 1 ≤ length t → get_or t 0 0 ≢ 48 → proper (digits_of t) ≡ is_some (decimal_digit_of (get_or t 0 0))
+unfolding proper
+proper_other [] h n = absurd (omega arith)
+proper_other (c ∷ t) h n = by (decimal_digit_of c) refl
+  where
+    by : (m : Option ℕ) → decimal_digit_of c ≡ m → proper (digits_of (c ∷ t)) ≡ is_some m
+    by None e = ap proper (digits_end c t e)
+    by (Some d) e = ap proper (digits_more c d t e) ∙ proper_nonzero d (digits_of t) (digit_zero c d e n)
+
+pub proper_one : (t : List ℕ) → length t ≡ 1 → proper (digits_of t) ≡ is_some (decimal_digit_of (get_or t 0 0))
+unfolding proper digits_of
+proper_one [] h = absurd (omega arith)
+proper_one (c ∷ []) h = by (decimal_digit_of c) refl
+  where
+    by : (m : Option ℕ) → decimal_digit_of c ≡ m → proper (digits_of (c ∷ [])) ≡ is_some m
+    by None e = ap proper (digits_end c [] e)
+    by (Some d) e = ap proper (digits_more c d [] e)
+proper_one (c ∷ x ∷ t) h = absurd (omega arith)
 
 -- ---- the number that they write, and whether it is at most `most`
 grows : (high : ℕ) (ds : List ℕ) → high ≤ number_from high ds
@@ -82,50 +96,83 @@ grows high [] = omega arith
 grows high (d ∷ ds) = omega (arith, grows (high * 10 + d) ds)
 
 -- with `size` digits before, whose number is `high`
-unfoldable pub onward : ℕ → ℕ → ℕ → List ℕ → Number
-onward most high size ds = when leb (number_from high ds) most then Read (number_from high ds) (size + length ds) else Stopped 0
+unfoldable pub onward : ℕ → ℕ → ℕ → List ℕ → Option Number
+onward most high size ds = if leb (number_from high ds) most then Some (record { value = number_from high ds; len = size + length ds }) else None
 
 pub onward_start : (most : ℕ) (ds : List ℕ) → within most ds ≡ onward most 0 0 ds
 unfolding within onward
 onward_start most ds = let e : 0 + length ds ≡ length ds = omega arith in rw e
 
-pub onward_end : (most high size : ℕ) {ds : List ℕ} → ds ≡ [] → high ≤ most → onward most high size ds ≡ Read high size
-unfolding onward number_from when◌then◌else◌
+pub onward_end : (most high size : ℕ) {ds : List ℕ} → ds ≡ [] → high ≤ most → onward most high size ds ≡ Some (record { value = high; len = size })
+unfolding onward number_from
 onward_end most high size e h = let z : size + 0 ≡ size = omega arith in rw e (simp (le-leb _ _ h, z))
 
-pub onward_over : (most high size d : ℕ) (ds : List ℕ) → most < high * 10 + d → onward most high size (d ∷ ds) ≡ Stopped 0
-unfolding onward number_from when◌then◌else◌
+pub onward_over : (most high size d : ℕ) (ds : List ℕ) → most < high * 10 + d → onward most high size (d ∷ ds) ≡ None
+unfolding onward number_from
 onward_over most high size d ds h = let g : most < number_from (high * 10 + d) ds = omega (arith, grows (high * 10 + d) ds) in simp (lt-leb _ _ g)
 
 pub onward_more : (most high size d : ℕ) (ds : List ℕ) → onward most high size (d ∷ ds) ≡ onward most (high * 10 + d) (size + 1) ds
 unfolding onward number_from
 onward_more most high size d ds = let e : size + suc (length ds) ≡ size + 1 + length ds = omega arith in rw e
 
--- ---- bounds
-pub bounded_of : {most last : ℕ} {m n : Number} → m ≡ n → Bounded most last n → Bounded most last m
-bounded_of {most} {last} e b = subst (λ (n : Number). Bounded most last n) (sym e) b
+pub upto_some : (most n v : ℕ) → Some v ≡ upto most n → (v ≡ n) × (n ≤ most)
+upto_some most n v e = grind (arith, nat_tests)
 
-pub bounded_less : {most more last later : ℕ} {n : Number} → Bounded most last n → most ≤ more → last ≤ later → Bounded more later n
-bounded_less b h k = record { value = omega arith; size = omega arith }
+pub upto_none : (most n : ℕ) → None ≡ upto most n → most < n
+upto_none most n e = grind (arith, nat_tests)
 
-bounded_stopped : (most last n : ℕ) → n ≤ last → Bounded most last (Stopped n)
-bounded_stopped most last n h = record { value = omega arith; size = h }
+-- one turn of the loop
+pub digits_at : (i d : ℕ) (t : List ℕ) → i < length t → decimal_digit_of (get_or t i 0) ≡ Some d → digits_of (drop i t) ≡ d ∷ digits_of (drop (i + 1) t)
+digits_at i d t h e = at_drop_more digits_of t i 0 h ∙ digits_more (get_or t i 0) d (drop (i + 1) t) e
 
-bounded_within : (most : ℕ) (t : List ℕ) → Bounded most (length t) (within most (digits_of t))
-unfolding within when◌then◌else◌
-bounded_within most t = by (leb (number_from 0 (digits_of t)) most) refl
+pub digits_end_at : (i : ℕ) (t : List ℕ) → i < length t → decimal_digit_of (get_or t i 0) ≡ None → digits_of (drop i t) ≡ []
+digits_end_at i t h e = at_drop_more digits_of t i 0 h ∙ digits_end (get_or t i 0) (drop (i + 1) t) e
+
+pub digits_all : (i : ℕ) (t : List ℕ) → length t ≤ i → digits_of (drop i t) ≡ []
+unfolding digits_of
+digits_all i t h = at_drop_all digits_of t i h
+
+-- what `is_none` gives
+pub none_by : (m : Option ℕ) (b : Bool) → is_some m ≡ not b → b ≡ is_none m
+none_by None true e = refl
+none_by None false e = absurd (true≢false (sym e))
+none_by (Some v) true e = absurd (true≢false e)
+none_by (Some v) false e = refl
+
+-- ---- bounds of what is read
+within_bounds : (most : ℕ) (t : List ℕ) {n : Number} → Some n ≡ within most (digits_of t) → (n.value ≤ most) × (n.len ≤ length t)
+unfolding within
+within_bounds most t {n} e = by (leb (number_from 0 (digits_of t)) most) refl e
   where
-    by : (b : Bool) → leb (number_from 0 (digits_of t)) most ≡ b → Bounded most (length t) (when b then Read (number_from 0 (digits_of t)) (length (digits_of t)) else Stopped 0)
-    by true e = record { value = leb-true _ _ e; size = digits_length t }
-    by false e = bounded_stopped most (length t) 0 (omega arith)
+    by : (b : Bool) → leb (number_from 0 (digits_of t)) most ≡ b → Some n ≡ (if b then Some (record { value = number_from 0 (digits_of t); len = length (digits_of t) }) else None) → (n.value ≤ most) × (n.len ≤ length t)
+    by true g q = let s : n ≡ record { value = number_from 0 (digits_of t); len = length (digits_of t) } = cc in (omega (arith, ap (λ (m : Number). m.value) s, leb-true _ _ g), omega (arith, ap (λ (m : Number). m.len) s, digits_length t))
+    by false g q = let z : true ≡ false = cc in absurd (true≢false z)
 
-pub bounded_decimal : (most : ℕ) (t : List ℕ) → Bounded most (length t) (decimal most t)
-unfolding decimal when◌then◌else◌
-bounded_decimal most t = by (proper (digits_of t))
+pub decimal_bounds : (most : ℕ) (t : List ℕ) {n : Number} → Some n ≡ decimal most t → (n.value ≤ most) × (n.len ≤ length t)
+unfolding decimal
+decimal_bounds most t {n} e = by (proper (digits_of t)) e
   where
-    by : (b : Bool) → Bounded most (length t) (when b then within most (digits_of t) else Stopped 0)
-    by true = bounded_within most t
-    by false = bounded_stopped most (length t) 0 (omega arith)
+    by : (b : Bool) → Some n ≡ (if b then within most (digits_of t) else None) → (n.value ≤ most) × (n.len ≤ length t)
+    by true q = within_bounds most t q
+    by false q = let z : true ≡ false = cc in absurd (true≢false z)
+
+-- ---- a dot and one number more, as the code has them
+starts_pointwise : (s : ℕ) (t : List ℕ) → pointwise eqb (take 1 t) (s ∷ []) ≡ starts_with s t
+unfolding starts_with
+starts_pointwise s [] = refl
+starts_pointwise s (c ∷ t) = grind (arith, nat_tests)
+
+dot_there : (n : ℕ) (t : List ℕ) {b : Bool} → pointwise eqb (take 1 (take (length t - n) (drop n t))) (46 ∷ []) ≡ b → starts_with dot (drop n t) ≡ b
+dot_there n t e = sym (sym e ∙ ap (λ l. pointwise eqb (take 1 l) (46 ∷ [])) (part_tail n t) ∙ starts_pointwise 46 (drop n t))
+
+pub dotted_none : (t : List ℕ) (high : Number) → pointwise eqb (take 1 (take (length t - high.len) (drop high.len t))) (46 ∷ []) ≡ false → Err high.len ≡ dotted t (Ok high)
+dotted_none t high e = simp (dot_there high.len t e)
+
+pub dotted_some : (t rest : List ℕ) (high : Number) (low : Option Number) → pointwise eqb (take 1 (take (length t - high.len) (drop high.len t))) (46 ∷ []) ≡ true → rest ≡ drop 1 (take (length t - high.len) (drop high.len t)) → low ≡ decimal 255 rest
+    → joined high.value (high.len + 1) low ≡ dotted t (Ok high)
+dotted_some t rest high low e r l =
+    let behind : rest ≡ drop (high.len + 1) t = r ∙ ap (drop 1) (part_tail high.len t) ∙ drop-drop 1 high.len t in
+    simp (dot_there high.len t e) (ap (joined high.value (high.len + 1)) (l ∙ ap (decimal 255) behind))
 
 -- a text that begins with a character has one
 pub starts_inside : (c n : ℕ) (t : List ℕ) → starts_with c (drop n t) ≡ true → n < length t
@@ -133,31 +180,30 @@ unfolding starts_with
 starts_inside c n t e = by (drop n t) (length-drop n t) e
   where
     by : (s : List ℕ) → length s ≡ length t - n → starts_with c s ≡ true → n < length t
-    by [] h q = let z : ◌≡◌ {A = Bool} true false = cc in absurd (true≢false z)
+    by [] h q = absurd (true≢false (sym q))
     by (x ∷ s) h q = omega arith
 
-bounded_joined : (high size last m : ℕ) (n : Number) → high ≤ m → Bounded 255 last n → Bounded (m * 256 + 255) (size + last) (joined high size n)
-bounded_joined high size last m (Stopped n) h b = record { value = omega arith; size = omega arith }
-bounded_joined high size last m (Read v n) h b = record { value = omega arith; size = omega arith }
-
-pub bounded_dotted : (m : ℕ) (t : List ℕ) (n : Number) → Bounded m (length t) n → Bounded (m * 256 + 255) (length t) (dotted t n)
-unfolding when◌then◌else◌
-bounded_dotted m t (Stopped n) b = bounded_stopped (m * 256 + 255) (length t) n b.size
-bounded_dotted m t (Read v n) b = by (starts_with dot (drop n t)) refl
+pub dotted_bounds : (m : ℕ) (t : List ℕ) (high : Number) {n : Number} → high.value ≤ m → high.len ≤ length t → Ok n ≡ dotted t (Ok high) → (n.value ≤ m * 256 + 255) × (n.len ≤ length t)
+dotted_bounds m t high {n} v l e = by (starts_with dot (drop high.len t)) refl (decimal 255 (drop (high.len + 1) t)) refl e
   where
-    by : (s : Bool) → starts_with dot (drop n t) ≡ s → Bounded (m * 256 + 255) (length t) (when s then joined v (n + 1) (decimal 255 (drop (n + 1) t)) else Stopped n)
-    by true e =
-        let h : n < length t = starts_inside dot n t e in
-        bounded_less (bounded_joined v (n + 1) (length (drop (n + 1) t)) m (decimal 255 (drop (n + 1) t)) b.value (bounded_decimal 255 (drop (n + 1) t))) (omega arith) (simp length-drop (omega arith))
-    by false e = bounded_stopped (m * 256 + 255) (length t) n b.size
+    by : (b : Bool) → starts_with dot (drop high.len t) ≡ b → (low : Option Number) → low ≡ decimal 255 (drop (high.len + 1) t) → Ok n ≡ (if b then joined high.value (high.len + 1) low else Err high.len) → (n.value ≤ m * 256 + 255) × (n.len ≤ length t)
+    by false g low d q = let z : true ≡ false = cc in absurd (true≢false z)
+    by true g None d q = let z : true ≡ false = cc in absurd (true≢false z)
+    by true g (Some low) d q =
+        let s : n ≡ record { value = high.value * 256 + low.value; len = high.len + 1 + low.len } = cc in
+        let b = decimal_bounds 255 (drop (high.len + 1) t) d in
+        let more : high.len < length t = starts_inside dot high.len t g in
+        (omega (arith, ap (λ (m : Number). m.value) s, b), omega (arith, ap (λ (m : Number). m.len) s, b, length-drop (high.len + 1) t))
 
--- ---- a dot and one number more, as the code has them
-pub dotted_stop : (t : List ℕ) (v n : ℕ) {m : Number} → m ≡ Read v n → starts_with dot (drop n t) ≡ false → Stopped n ≡ dotted t m
-dotted_stop t v n e s = if_false _ s refl ∙ ap (dotted t) (sym e)
+-- an address by its first number, which the code has
+pub address_by : (t : List ℕ) {m : Option Number} → m ≡ decimal 255 t → dotted t (dotted t (dotted t (number_at 0 m))) ≡ address t
+unfolding address
+address_by t e = ap (λ m. dotted t (dotted t (dotted t (number_at 0 m)))) e
 
-pub dotted_more : (t : List ℕ) (v n : ℕ) {m low r : Number} → m ≡ Read v n → starts_with dot (drop n t) ≡ true
-    → low ≡ decimal 255 (take (length t - (n + 1)) (drop (n + 1) t)) → r ≡ joined v (n + 1) low → r ≡ dotted t m
-dotted_more t v n e s l j = if_true _ s (j ∙ ap (joined v (n + 1)) (l ∙ ap (decimal 255) (part_tail (n + 1) t))) ∙ ap (dotted t) (sym e)
-
-pub low_bounded : (t : List ℕ) (n : ℕ) {low : Number} → low ≡ decimal 255 (take (length t - n) (drop n t)) → length t < 18446744073709551616 → Bounded 255 (18446744073709551615 - n) low
-low_bounded t n {low} e h = bounded_less (bounded_of (e ∙ ap (decimal 255) (part_tail n t)) (bounded_decimal 255 (drop n t))) (omega arith) (simp length-drop (omega arith))
+pub dotted_stop : (t : List ℕ) (high : Number) {n : ℕ} → high.len ≤ length t → Err n ≡ dotted t (Ok high) → n ≤ length t
+dotted_stop t high {n} l e = by (starts_with dot (drop high.len t)) refl (decimal 255 (drop (high.len + 1) t)) e
+  where
+    by : (b : Bool) → starts_with dot (drop high.len t) ≡ b → (low : Option Number) → Err n ≡ (if b then joined high.value (high.len + 1) low else Err high.len) → n ≤ length t
+    by false g low q = let s : n ≡ high.len = cc in omega arith
+    by true g None q = let s : n ≡ high.len + 1 = cc in omega (arith, starts_inside dot high.len t g)
+    by true g (Some low) q = let z : true ≡ false = cc in absurd (true≢false z)

@@ -1,13 +1,12 @@
 -- Laws of writers in a row, cut where the buffer ends. Assumes nothing.
-use Prim.Native.Nat.{ℕ, zero, suc, ◌+◌, ◌-◌, ◌/◌, ◌%◌, ◌≤◌, ◌<◌, min}
-use mathlib.Core.Path.{◌≡◌, refl, sym, ap, ◌∙◌}
+use Prim.Native.Nat.{ℕ, zero, suc, ◌+◌, ◌-◌, ◌≤◌, ◌<◌, min}
+use mathlib.Core.Path.{◌≡◌, refl, sym, ap, subst, ◌∙◌}
 use mathlib.Core.List.{List, [], ◌∷◌, ◌++◌, append-nil, append_assoc}
 use native.Mathlib.Omega.{arith}
-use lib.ListN.{length, take, drop, get_or, set, length-append, length-take, length-drop, take-append-drop, drop_of_length-le}
+use lib.ListN.{length, take, drop, set, length-append, length-take, length-drop, take-append-drop, drop_of_length-le}
 use lib.Seq.{length-take-le, take_all, take_at, drop_at, drop-drop}
-use Rattle.octets.proofs.Runs.{part_tail}
-use Rattle.trace.specs.Texts.{digit_char_of, octets_text}
-use Rattle.trace.specs.Written.{poured, poured_from, place_after, Wrote}
+use Rattle.trace.specs.Written.{poured, poured_from, place_after, Wrote, Writes}
+use Rattle.trace.specs.declared.write.Writer.{Writer}
 
 poured_nil : (text : List ℕ) → poured text [] ≡ []
 unfolding poured
@@ -131,20 +130,22 @@ pub one : {p : ℕ} {xs : List ℕ} (c : ℕ) → p < length xs → Wrote p (c �
 one {p} {xs} c h = record { ends = omega arith; bytes = from_one p c xs h }
 
 -- ---- a text by its first character, octets by their first
-pub chars_step : (t : List ℕ) → 0 < length t → t ≡ (get_or t 0 0 ∷ []) ++ take (length t - 1) (drop 1 t)
-chars_step [] h = absurd (omega arith)
-chars_step (c ∷ t) h = ap (λ (l : List ℕ). c ∷ l) (sym (part_tail 1 (c ∷ t)))
+-- ---- the same of a writer: what is still to be written, and methods in a row
+pub record Still (text : List ℕ) (before : Writer) (rest : List ℕ) (now : Writer) : Type 0 where
+  pub same_buffer : now.buf.ghost_name ≡ before.buf.ghost_name
+  pub onward : Onward before.at text before.buf.now now.at rest now.buf.now
 
-pub octets_step : (t : List ℕ) → 0 < length t → octets_text t ≡ (digit_char_of (get_or t 0 0 / 16) ∷ digit_char_of (get_or t 0 0 % 16) ∷ []) ++ octets_text (take (length t - 1) (drop 1 t))
-unfolding octets_text
-octets_step [] h = absurd (omega arith)
-octets_step (o ∷ t) h = ap (λ (l : List ℕ). digit_char_of (o / 16) ∷ digit_char_of (o % 16) ∷ octets_text l) (sym (part_tail 1 (o ∷ t)))
+pub still : (text : List ℕ) (w : Writer) → Still text w text w
+still text w = record { same_buffer = refl; onward = whole }
 
-pub written_chars : {p r : ℕ} {text xs t ys : List ℕ} → Onward p text xs r t ys → length t ≤ 0 → Wrote p text xs r ys
-written_chars {t = []} o h = written o
-written_chars {t = c ∷ t} o h = absurd (omega arith)
+pub still_on : {text rest a b : List ℕ} {before now after : Writer} → Still text before rest now → Writes a now after → rest ≡ a ++ b → Still text before b after
+still_on s w e = record { same_buffer = w.same_buffer ∙ s.same_buffer; onward = onward s.onward w.wrote e }
 
-pub written_octets : {p r : ℕ} {text xs ys : List ℕ} (t : List ℕ) → Onward p text xs r (octets_text t) ys → length t ≤ 0 → Wrote p text xs r ys
-unfolding octets_text
-written_octets [] o h = written o
-written_octets (c ∷ t) o h = absurd (omega arith)
+pub writes : {text rest : List ℕ} {before after : Writer} → Still text before rest after → rest ≡ [] → Writes text before after
+writes {text} {rest} {before} {after} s e = let o = subst (λ (l : List ℕ). Still text before l after) e s in record { same_buffer = o.same_buffer; wrote = written o.onward }
+
+pub in_row : {a b : List ℕ} {x y z : Writer} → Writes a x y → Writes b y z → Writes (a ++ b) x z
+in_row f g = record { same_buffer = g.same_buffer ∙ f.same_buffer; wrote = row f.wrote g.wrote }
+
+pub writes_as : {a b : List ℕ} {x y : Writer} → Writes a x y → a ≡ b → Writes b x y
+writes_as {x = x} {y = y} w e = subst (λ (l : List ℕ). Writes l x y) e w

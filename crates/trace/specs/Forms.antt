@@ -1,97 +1,59 @@
 -- Forms, and what each part of a form takes of a text (docs/TRACE.md, "Lines"): "its text, with a gap for each value".
-use Rattle.std.specs.Prelude.{ℕ, ◌-◌, ◌^◌, List, [], ◌∷◌, length, get_or, eqb, leb}
-use Rattle.choice.specs.Choice.{when◌then◌else◌}
+use Rattle.std.specs.Prelude.{ℕ, ◌*◌, List, [], ◌∷◌, ◌==◌, nat_le, if◌then◌else◌, Option, None, Some, Result, Ok, Err}
 use Rattle.trace.specs.Lines.{starts_with}
 use Rattle.trace.specs.Digits.{pairs_of}
-use Rattle.trace.specs.Numbers.{decimal, address}
+use Rattle.trace.specs.Numbers.{decimal, number_at, address}
+use Rattle.trace.specs.Gaps.{gap_of, limit_of}
 use Rattle.trace.specs.declared.number.Number.{Number}
-use Rattle.trace.specs.declared.number.Number.TheVariants as number
-use Rattle.trace.specs.declared.gap.Limit.{Limit}
-use Rattle.trace.specs.declared.gap.Limit.TheVariants.{Unknown, Most}
-use Rattle.trace.specs.declared.gap.Taken.{Taken}
-use Rattle.trace.specs.declared.gap.Taken.TheVariants.{Stopped, Letter, Value, Octets}
+use Rattle.trace.specs.declared.form.Gap as kinds
+use Rattle.trace.specs.declared.form.Gap.TheVariants as kind
+use Rattle.trace.specs.declared.form.Part.{Part}
+use Rattle.trace.specs.declared.form.Part.TheVariants.{Letter, Gap}
+use Rattle.trace.specs.declared.taken.Taken.{Taken}
+use Rattle.trace.specs.declared.taken.Taken.TheVariants as what
 
--- The characters of the gaps.
+-- The character with which a gap begins.
 abbrev pub percent : ℕ
 percent = 37
-
-abbrev pub char_a : ℕ
-char_a = 97
-
-abbrev pub char_b : ℕ
-char_b = 98
-
-abbrev pub char_c : ℕ
-char_c = 99
-
-abbrev pub char_h : ℕ
-char_h = 104
-
-abbrev pub char_q : ℕ
-char_q = 113
-
-abbrev pub char_w : ℕ
-char_w = 119
-
-abbrev pub char_x : ℕ
-char_x = 120
-
--- A part of a form: a character that stands as it is, or a gap, by the character behind its `%`.
-pub data Part : Type 0 where
-  letter : ℕ → Part
-  gap : ℕ → Part
 
 -- The parts of a form. A form that ends with `%` ends with a gap of no kind.
 unfoldable pub parts_of : List ℕ → List Part
 parts_of [] = []
-parts_of (s ∷ []) = (when eqb s percent then gap 0 else letter s) ∷ []
-parts_of (s ∷ kind ∷ form) = when eqb s percent then gap kind ∷ parts_of form else letter s ∷ parts_of (kind ∷ form)
-
--- The largest number of a decimal gap: %b is 1 or 0; %c, %h, %w and %q are numbers of 8, 16, 32 and 64 bits.
-unfoldable pub limit_of : ℕ → Limit
-limit_of kind =
-    when eqb kind char_b then Most 1
-    else when eqb kind char_c then Most (2 ^ 8 - 1)
-    else when eqb kind char_h then Most (2 ^ 16 - 1)
-    else when eqb kind char_w then Most (2 ^ 32 - 1)
-    else when eqb kind char_q then Most (2 ^ 64 - 1)
-    else Unknown
-
--- The number that fills a gap: %a is an address, the others are decimal.
-unfoldable pub number_of : ℕ → List ℕ → Number
-number_of kind text =
-    when eqb kind char_a then address text
-    else elim (limit_of kind) [
-      | Most most ↦ decimal most text
-      | Unknown ↦ number.Stopped 0
-    ]
+parts_of (s ∷ []) = (if s == percent then Gap kind.Unknown else Letter s) ∷ []
+parts_of (s ∷ kind ∷ form) = if s == percent then Gap (gap_of kind) ∷ parts_of form else Letter s ∷ parts_of (kind ∷ form)
 
 -- A number as what is taken.
-abbrev pub of_number : Number → Taken
-of_number (number.Stopped n) = Stopped n
-of_number (number.Read value n) = Value value n
+abbrev pub of_number : Result Number ℕ → Result Taken ℕ
+of_number (Err n) = Err n
+of_number (Ok number) = Ok (what.Value number)
+
+-- The decimal number of a gap with a limit; a gap of no kind takes none.
+abbrev pub limited : Option ℕ → List ℕ → Result Number ℕ
+limited None text = Err 0
+limited (Some most) text = number_at 0 (decimal most text)
 
 -- The octets that a text begins with, at most 65,535. They go on as far as two digits stand together: a digit that is left
 -- over is for the next part, which does not take it.
-unfoldable pub octets_taken : List ℕ → Taken
-octets_taken text = when leb (pairs_of text) 65535 then Octets (pairs_of text) else Stopped 0
+unfoldable pub octets_taken : List ℕ → Result Taken ℕ
+octets_taken text = if nat_le (pairs_of text) 65535 then Ok (what.Octets (pairs_of text)) else Err 0
 
--- What fills a gap: %x is octets, the others are numbers.
-unfoldable pub gap_taken : ℕ → List ℕ → Taken
-gap_taken kind text = when eqb kind char_x then octets_taken text else of_number (number_of kind text)
+-- What fills a gap: %x is octets, %a is an address, the others are decimal.
+abbrev pub gap_taken : kinds.Gap → List ℕ → Result Taken ℕ
+gap_taken kind.Octets text = octets_taken text
+gap_taken kind.Address text = of_number (address text)
+gap_taken gap text = of_number (limited (limit_of gap) text)
 
 -- A character that stands as it is.
-unfoldable pub letter_taken : ℕ → List ℕ → Taken
-letter_taken s text = when starts_with s text then Letter else Stopped 0
+unfoldable pub letter_taken : ℕ → List ℕ → Result Taken ℕ
+letter_taken s text = if starts_with s text then Ok what.Letter else Err 0
 
--- What a part of a form takes of a text.
-abbrev pub taken : Part → List ℕ → Taken
-taken (letter s) text = letter_taken s text
-taken (gap kind) text = gap_taken kind text
+-- What a part of a form takes of a text, or how many characters stand before the fault.
+abbrev pub taken : Part → List ℕ → Result Taken ℕ
+taken (Letter s) text = letter_taken s text
+taken (Gap gap) text = gap_taken gap text
 
--- For contracts within this crate: the first part of a form that is not empty, and how many characters it is.
-unfoldable pub head_part : List ℕ → Part
-head_part form = when eqb (get_or form 0 0) percent then gap (get_or form 1 0) else letter (get_or form 0 0)
-
-unfoldable pub part_size : List ℕ → ℕ
-part_size form = when eqb (get_or form 0 0) percent then (when eqb (length form) 1 then 1 else 2) else 1
+-- How many characters they are.
+abbrev pub taken_len : Taken → ℕ
+taken_len what.Letter = 1
+taken_len (what.Value number) = number.len
+taken_len (what.Octets count) = 2 * count

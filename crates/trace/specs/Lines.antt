@@ -1,6 +1,5 @@
 -- Lines of a text, and what a line begins with (docs/TRACE.md: "a line ends in LF").
-use Rattle.std.specs.Prelude.{ℕ, suc, ◌+◌, ◌-◌, min, Bool, true, false, List, [], ◌∷◌, length, take, drop, eqb}
-use Rattle.choice.specs.Choice.{when◌then◌else◌}
+use Rattle.std.specs.Prelude.{ℕ, suc, ◌+◌, ◌-◌, min, Bool, true, false, List, [], ◌∷◌, length, take, drop, ◌==◌, if◌then◌else◌}
 
 -- LF.
 abbrev pub line_end : ℕ
@@ -9,7 +8,7 @@ line_end = 10
 -- The length of a text's first line: what stands before the first LF, all where there is none.
 unfoldable pub line_length : List ℕ → ℕ
 line_length [] = 0
-line_length (c ∷ text) = when eqb c line_end then 0 else suc (line_length text)
+line_length (c ∷ text) = if c == line_end then 0 else suc (line_length text)
 
 -- The line that begins at a place, without its LF.
 unfoldable pub line_at : ℕ → List ℕ → List ℕ
@@ -23,9 +22,9 @@ after_line at text = at + min (line_length (drop at text) + 1) (length text - at
 unfoldable pub begins_with : List ℕ → List ℕ → Bool
 begins_with [] line = true
 begins_with (s ∷ start) [] = false
-begins_with (s ∷ start) (c ∷ line) = when eqb s c then begins_with start line else false
+begins_with (s ∷ start) (c ∷ line) = if s == c then begins_with start line else false
 
 -- Whether a text begins with this character.
 unfoldable pub starts_with : ℕ → List ℕ → Bool
 starts_with s [] = false
-starts_with s (c ∷ text) = eqb c s
+starts_with s (c ∷ text) = c == s

@@ -7,13 +7,14 @@
 #![tactic(auto)]
 
 mod digit;
-mod gap;
+mod form;
 mod line;
 mod number;
 mod record;
+mod taken;
 mod write;
 
 pub use digit::octet_at;
 pub use line::{after_line, begins, line_at, line_len};
-pub use record::{Record, read_record};
+pub use record::{Misfit, Record, read_record};
 pub use write::write_record;

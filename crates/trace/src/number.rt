@@ -1,110 +1,109 @@
-// Numbers in decimal, and addresses, which are four of them.
-ghost use Rattle.std.specs.Prelude.{◌≡◌, ◌-◌, ◌≤◌, length};
-ghost use Rattle.trace.specs.Numbers.{digits_of, proper, within, decimal, joined, dotted, address, Bounded};
+// Numbers in decimal, and addresses, which are four of them. Read by hand: `parse` takes leading zeros and a sign, and wants the
+// end of the number found first, while here text goes on behind it, and where reading stops is part of the answer.
+ghost use Rattle.std.specs.Prelude.{◌≡◌, ◌+◌, ◌*◌, ◌<◌, ◌≤◌, IfSome, length, Ok};
+ghost use Rattle.trace.specs.Digits.{decimal_digit_of};
+ghost use Rattle.trace.specs.Numbers.{digits_of, proper, upto, within, decimal, dotted, address};
 
 use crate::digit::digit;
-use crate::line::starts;
 
-// What reading a number gives: its value and how many characters it takes, or how many characters stand before the
-// fault.
-#[derive(Clone, Copy)]
-pub(crate) enum Number {
-    Stopped(usize),
-    Read { value: u64, len: usize },
+// A number that was read: its value and how many characters it takes.
+#[derive(Clone, Copy, Debug, PartialEq, Eq)]
+pub(crate) struct Number {
+    pub(crate) value: u64,
+    pub(crate) len: usize,
 }
 
 // The dot between the numbers of an address.
-pub(crate) const DOT: u8 = 46;
+pub(crate) const DOT: u8 = b'.';
+
+// The value of a decimal digit.
+#[tactic(auto, unfolding(crate::specs::Digits::decimal_digit_of))]
+fn decimal_digit(c: u8) -> Option<u8>
+    ensures value { result ≡ decimal_digit_of c }
+    ensures below { IfSome result (λ d. d < 10) }
+{
+    digit(c).filter(|d| *d < 10)
+}
 
 // Whether the digits that a text begins with write a number: there is one, and no zero leads others.
 fn is_proper(text: &[u8]) -> bool
     ensures { result ≡ proper (digits_of text.now) }
 {
-    if text.len() == 0 {
-        return false;
+    match text {
+        [] => false,
+        [only] => decimal_digit(*only).is_some(),
+        [zero, next, ..] if *zero == b'0' => decimal_digit(*next).is_none(),
+        [first, ..] => decimal_digit(*first).is_some(),
     }
-    let d = digit(text[0]);
-    if 10 <= d {
-        return false;
-    }
-    if 0 < d {
-        return true;
-    }
-    if text.len() == 1 {
-        return true;
-    }
-    10 <= digit(text[1])
+}
+
+// A number with one digit more, if it is at most `most`.
+fn with_digit(value: u64, d: u8, most: u64) -> Option<u64>
+    requires { d < 10 }
+    ensures { result ≡ upto most (value * 10 + d) }
+{
+    value
+        .checked_mul(10)?
+        .checked_add(u64::from(d))
+        .filter(|v| *v <= most)
 }
 
 // The number of the digits that a text begins with, if it is at most `most`.
-fn digits_within(text: &[u8], most: u64) -> Number
+fn digits_within(text: &[u8], most: u64) -> Option<Number>
     ensures { result ≡ within most (digits_of text.now) }
 {
-    let mut t = text;
     let mut value: u64 = 0;
-    let mut len: usize = 0;
-    while 0 < t.len() {
-        let d = digit(t[0]) as u64;
-        if 10 <= d {
-            return Number::Read { value, len };
-        }
-        if most < d {
-            return Number::Stopped(0);
-        }
-        if (most - d) / 10 < value {
-            return Number::Stopped(0);
-        }
-        value = value * 10 + d;
-        len += 1;
-        t = &t[1..];
+    for (len, c) in text.iter().enumerate() {
+        let Some(d) = decimal_digit(*c) else {
+            return Some(Number { value, len });
+        };
+        value = with_digit(value, d, most)?;
     }
-    Number::Read { value, len }
+    Some(Number {
+        value,
+        len: text.len(),
+    })
 }
 
 // The number of at most `most` that a text begins with.
-pub(crate) fn decimal(text: &[u8], most: u64) -> Number
+#[tactic(auto, unfolding(crate::specs::Numbers::decimal))]
+pub(crate) fn decimal(text: &[u8], most: u64) -> Option<Number>
     ensures { result ≡ decimal most text.now }
 {
-    if !is_proper(text) {
-        return Number::Stopped(0);
+    if is_proper(text) {
+        digits_within(text, most)
+    } else {
+        None
     }
-    digits_within(text, most)
 }
 
-// One number more of an address, behind `size` characters that give `high`.
-fn joined(high: u64, size: usize, low: Number) -> Number
-    requires { (high ≤ 16777215) × (Bounded 255 (18446744073709551615 - size) low) }
-    ensures { result ≡ joined high size low }
+// A dot and one number more, behind what was read of an address; else where reading stops.
+fn dotted(text: &[u8], high: Number) -> Result<Number, usize>
+    requires value { high.value ≤ 16777215 }
+    requires len { high.len ≤ length text.now }
+    ensures { result ≡ dotted text.now (Ok high) }
 {
-    match low {
-        Number::Read { value, len } => Number::Read {
-            value: high * 256 + value,
-            len: size + len,
-        },
-        Number::Stopped(len) => Number::Stopped(size + len),
-    }
+    let Some(rest) = text[high.len..].strip_prefix(&[DOT]) else {
+        return Err(high.len);
+    };
+    let at = high.len + 1;
+    let Some(low) = decimal(rest, 255) else {
+        return Err(at);
+    };
+    Ok(Number {
+        value: high.value * 256 + low.value,
+        len: at + low.len,
+    })
 }
 
-// A dot and one number more, behind what was read of an address.
-fn dotted(text: &[u8], first: Number) -> Number
-    requires { Bounded 16777215 (length text.now) first }
-    ensures { result ≡ dotted text.now first }
-{
-    match first {
-        Number::Read { value, len } => {
-            if !starts(&text[len..], DOT) {
-                return Number::Stopped(len);
-            }
-            let at = len + 1;
-            joined(value, at, decimal(&text[at..], 255))
-        }
-        Number::Stopped(len) => Number::Stopped(len),
-    }
-}
-
-// The address that a text begins with, as a number of 32 bits.
-pub(crate) fn address(text: &[u8]) -> Number
+// The address that a text begins with, as a number of 32 bits; else where reading stops.
+pub(crate) fn address(text: &[u8]) -> Result<Number, usize>
     ensures { result ≡ address text.now }
 {
-    dotted(text, dotted(text, dotted(text, decimal(text, 255))))
+    let Some(first) = decimal(text, 255) else {
+        return Err(0);
+    };
+    let second = dotted(text, first)?;
+    let third = dotted(text, second)?;
+    dotted(text, third)
 }

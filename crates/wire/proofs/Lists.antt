@@ -1,85 +1,50 @@
--- Laws of lists of addresses: the first three of a list that grows, and groups of four octets. Assumes nothing.
-use Prim.Native.Nat.{ℕ, ◌+◌, ◌≤◌, ◌<◌}
-use mathlib.Core.Bool.{Bool, true, false}
+-- Laws of lists of addresses: the unicast ones among groups of four octets, of which the first three are kept. Assumes nothing.
+use Prim.Native.Nat.{ℕ, zero, suc, ◌+◌, ◌*◌, ◌/◌, ◌≤◌, ◌<◌}
+use mathlib.Core.Bool.{true, false}
 use mathlib.Core.Path.{◌≡◌, refl, sym, ap, ◌∙◌}
 use mathlib.Core.List.{List, [], ◌∷◌, ◌++◌, append-nil, append_assoc}
 use native.Mathlib.Omega.{arith}
-use lib.ListN.{length, get_or, drop, set}
+use lib.ListN.{length}
+use Rattle.std.specs.Prelude.{filter, map, fold, if◌then◌else◌}
+use Rattle.std.specs.Simd.{first_chunks}
 use Rattle.choice.specs.Choice.{when◌then◌else◌}
-use Rattle.octets.specs.Words.{word32}
 use Rattle.octets.specs.Addresses.{unicast}
-use Rattle.wire.specs.Readings.{unicast_ones, groups_of, first_three}
-use Rattle.wire.specs.declared.reply.Addresses.{Addresses}
-
--- three are enough
-pub three_full : (done more : List ℕ) → 3 ≤ (first_three done).count → first_three done ≡ first_three (done ++ more)
-three_full [] more h = absurd (omega arith)
-three_full (a ∷ []) more h = absurd (omega arith)
-three_full (a ∷ b ∷ []) more h = absurd (omega arith)
-three_full (a ∷ b ∷ c ∷ done) more h = refl
+use Rattle.wire.specs.Readings.{unicast_ones, groups_of, first_three, word_of, with_address}
 
 -- one more
-pub three_more : (done : List ℕ) (a : ℕ) → (first_three done).count < 3
-    → ◌≡◌ {A = Addresses} (record { list = set (first_three done).list (first_three done).count a; count = (first_three done).count + 1 }) (first_three (done ++ (a ∷ [])))
-three_more [] a h = refl
-three_more (b ∷ []) a h = refl
-three_more (b ∷ c ∷ []) a h = refl
-three_more (b ∷ c ∷ d ∷ done) a h = absurd (omega arith)
+with_one : (done : List ℕ) (a : ℕ) → with_address (first_three done) a ≡ first_three (done ++ (a ∷ []))
+unfolding when◌then◌else◌
+with_one [] a = refl
+with_one (b ∷ []) a = refl
+with_one (b ∷ c ∷ []) a = refl
+with_one (b ∷ c ∷ d ∷ done) a = refl
 
-pub ones_kept : (a : ℕ) (xs : List ℕ) → unicast a ≡ true → unicast_ones (a ∷ xs) ≡ a ∷ unicast_ones xs
+-- and all of a list, one by one
+with_all : (done xs : List ℕ) → fold with_address (first_three done) xs ≡ first_three (done ++ xs)
+with_all done [] = ap first_three (sym (append-nil done))
+with_all done (a ∷ xs) = ap (λ f. fold with_address f xs) (with_one done a) ∙ with_all (done ++ (a ∷ [])) xs ∙ ap first_three (append_assoc done (a ∷ []) xs)
+
+ones_kept : (xs : List ℕ) → filter unicast xs ≡ unicast_ones xs
 unfolding unicast_ones when◌then◌else◌
-ones_kept a xs e = rw e
+ones_kept [] = refl
+ones_kept (a ∷ xs) = elim (unicast a) as (λ t. (if t then a ∷ filter unicast xs else filter unicast xs) ≡ (when t then a ∷ unicast_ones xs else unicast_ones xs)) [ true ↦ ap (λ l. a ∷ l) (ones_kept xs) | false ↦ ones_kept xs ]
 
-pub ones_left : (a : ℕ) (xs : List ℕ) → unicast a ≡ false → unicast_ones (a ∷ xs) ≡ unicast_ones xs
-unfolding unicast_ones when◌then◌else◌
-ones_left a xs e = rw e
-
-ones_split : (a : ℕ) (xs : List ℕ) → unicast_ones (a ∷ xs) ≡ unicast_ones (a ∷ []) ++ unicast_ones xs
-unfolding unicast_ones when◌then◌else◌
-ones_split a xs = by (unicast a)
-  where
-    by : (t : Bool) → (when t then a ∷ unicast_ones xs else unicast_ones xs) ≡ (when t then a ∷ [] else []) ++ unicast_ones xs
-    by true = refl
-    by false = refl
-
--- the addresses of `body` are those already found and those of what is left of it
-pub record Gathered (body rest : List ℕ) (found : Addresses) : Type 0 where
-  pub done : List ℕ
-  pub holds : found ≡ first_three done
-  pub whole : unicast_ones (groups_of body) ≡ done ++ unicast_ones (groups_of rest)
-
-pub gathered_none : (body : List ℕ) → Gathered body body (first_three [])
-gathered_none body = record { done = []; holds = refl; whole = refl }
-
-groups_more : (t : List ℕ) → 4 ≤ length t → groups_of t ≡ word32 (get_or t 0 0) (get_or t 1 0) (get_or t 2 0) (get_or t 3 0) ∷ groups_of (drop 4 t)
+-- chunks of four octets, and fewer at the end
+chunks_read : (k : ℕ) (s : List ℕ) → k * 4 ≤ length s → length s < k * 4 + 4 → map word_of (first_chunks 4 k s) ≡ groups_of s
 unfolding groups_of
-groups_more [] h = absurd (omega arith)
-groups_more (a ∷ []) h = absurd (omega arith)
-groups_more (a ∷ b ∷ []) h = absurd (omega arith)
-groups_more (a ∷ b ∷ c ∷ []) h = absurd (omega arith)
-groups_more (a ∷ b ∷ c ∷ d ∷ t) h = refl
+chunks_read zero [] h g = refl
+chunks_read zero (a ∷ []) h g = refl
+chunks_read zero (a ∷ b ∷ []) h g = refl
+chunks_read zero (a ∷ b ∷ c ∷ []) h g = refl
+chunks_read zero (a ∷ b ∷ c ∷ d ∷ s) h g = absurd (omega arith)
+chunks_read (suc k) [] h g = absurd (omega arith)
+chunks_read (suc k) (a ∷ []) h g = absurd (omega arith)
+chunks_read (suc k) (a ∷ b ∷ []) h g = absurd (omega arith)
+chunks_read (suc k) (a ∷ b ∷ c ∷ []) h g = absurd (omega arith)
+chunks_read (suc k) (a ∷ b ∷ c ∷ d ∷ s) h g = ap (λ l. word_of (a ∷ b ∷ c ∷ d ∷ []) ∷ l) (chunks_read k s (omega arith) (omega arith))
 
-groups_end : (t : List ℕ) → length t < 4 → groups_of t ≡ []
-unfolding groups_of
-groups_end [] h = refl
-groups_end (a ∷ []) h = refl
-groups_end (a ∷ b ∷ []) h = refl
-groups_end (a ∷ b ∷ c ∷ []) h = refl
-groups_end (a ∷ b ∷ c ∷ d ∷ t) h = absurd (omega arith)
-
-pub gathered_more : (body t next : List ℕ) (found r : Addresses) (a : ℕ) → Gathered body t found → 4 ≤ length t → next ≡ drop 4 t
-    → a ≡ word32 (get_or t 0 0) (get_or t 1 0) (get_or t 2 0) (get_or t 3 0)
-    → ((done : List ℕ) → found ≡ first_three done → r ≡ first_three (done ++ unicast_ones (a ∷ [])))
-    → Gathered body next r
-gathered_more body t next found r a g h en ea step = record {
-  done = g.done ++ unicast_ones (a ∷ []);
-  holds = step g.done g.holds;
-  whole = g.whole ∙ ap (λ (l : List ℕ). g.done ++ l) rest ∙ sym (append_assoc g.done (unicast_ones (a ∷ [])) (unicast_ones (groups_of next)));
-}
-  where
-    rest : unicast_ones (groups_of t) ≡ unicast_ones (a ∷ []) ++ unicast_ones (groups_of next)
-    rest = ap unicast_ones (groups_more t h ∙ (λ k. sym ea k ∷ groups_of (sym en k))) ∙ ones_split a (groups_of next)
-
-pub gathered_all : (body t : List ℕ) (found : Addresses) → Gathered body t found → length t < 4 → found ≡ first_three (unicast_ones (groups_of body))
-unfolding unicast_ones
-gathered_all body t found g h = g.holds ∙ ap first_three (sym (g.whole ∙ ap (λ (l : List ℕ). g.done ++ unicast_ones l) (groups_end t h) ∙ append-nil g.done))
+-- the chain that reads a list of addresses
+pub first_addresses : (s : List ℕ) → fold with_address (first_three []) (filter unicast (map word_of (first_chunks 4 (length s / 4) s))) ≡ first_three (unicast_ones (groups_of s))
+first_addresses s =
+    ap (λ l. fold with_address (first_three []) (filter unicast l)) (chunks_read (length s / 4) s (omega arith) (omega arith))
+    ∙ with_all [] (filter unicast (groups_of s)) ∙ ap first_three (ones_kept (groups_of s))

@@ -1,5 +1,5 @@
 -- Laws of the store. Assumes nothing.
-use Prim.Native.Nat.{ℕ, zero, suc, ◌+◌, ◌≤◌, ◌<◌}
+use Prim.Native.Nat.{ℕ, zero, suc, ◌+◌, ◌-◌, ◌≤◌, ◌<◌}
 use mathlib.Core.Bool.{true, false}
 use mathlib.Core.Path.{◌≡◌, refl, sym, ap, subst, ◌∙◌}
 use mathlib.Core.List.{List, [], ◌∷◌, ◌++◌}
@@ -17,10 +17,10 @@ use Rattle.octets.proofs.Items.{bytes_of, bytes_long, items_append, items_option
 use Rattle.wire.specs.Options.{DhcpOption, options_of}
 use Rattle.wire.specs.Stored.{pushed, all_pushed, place_from, with_option, used, whole_store, empty_store, store_of}
 use Rattle.wire.specs.declared.store.Store.{Store}
-use Rattle.wire.specs.declared.store.Got.TheVariants.{Absent, At}
+use Rattle.std.proofs.Common.{Some, None}
 
 -- an option that does not fit, and one that does
-pub push_passed : (store : Store) (kind : ℕ) (body : List ℕ) → 256 < store.len + (2 + length body) → store ≡ pushed store kind body
+push_passed : (store : Store) (kind : ℕ) (body : List ℕ) → 256 < store.len + (2 + length body) → store ≡ pushed store kind body
 unfolding pushed when◌then◌else◌
 push_passed store kind body h =
     let e : 256 < store.len + length (option kind body) = omega arith in
@@ -33,7 +33,7 @@ push_kept store kind body h =
     simp (le-leb _ _ e)
 
 -- what a writer that is lent the store's octets leaves
-pub push_written : (store : Store) (kind : ℕ) (body : List ℕ) (r : ℕ) (ys : List ℕ) → length store.bytes ≡ 256 → store.len + (2 + length body) ≤ 256
+push_written : (store : Store) (kind : ℕ) (body : List ℕ) (r : ℕ) (ys : List ℕ) → length store.bytes ≡ 256 → store.len + (2 + length body) ≤ 256
     → r ≡ placed_length (option_bytes kind body) (drop store.len store.bytes)
     → ys ≡ take store.len store.bytes ++ placed (option_bytes kind body) (drop store.len store.bytes)
     → (r ≡ 2 + length body) × (◌≡◌ {A = Store} (record { bytes = ys; len = store.len + r }) (pushed store kind body))
@@ -53,44 +53,33 @@ with_size store kind body size h = simp (length-append, length-take, over_length
 
 -- the same of an option that may not fit, which leaves the octets as they were
 pub record Put (store : Store) (kind : ℕ) (body : List ℕ) (r : ℕ) (ys : List ℕ) : Type 0 where
-  pub within : store.len + r ≤ 256
-  pub size : length ys ≡ 256
+  pub within : r ≤ 256 - store.len
   pub kept : ◌≡◌ {A = Store} (record { bytes = ys; len = store.len + r }) (pushed store kind body)
 
-not_put : (store : Store) (kind : ℕ) (body : List ℕ) (r : ℕ) (ys : List ℕ) → length store.bytes ≡ 256 → store.len ≤ 256 → 256 < store.len + (2 + length body)
-    → r ≡ 0 → ys ≡ store.bytes → Put store kind body r ys
-not_put store kind body r ys size h over er ey =
+not_put : (store : Store) (kind : ℕ) (body : List ℕ) (r : ℕ) (ys : List ℕ) → 256 < store.len + (2 + length body) → r ≡ 0 → ys ≡ store.bytes → Put store kind body r ys
+not_put store kind body r ys over er ey =
     let n : store.len + r ≡ store.len = omega arith in
-    record { within = omega arith; size = ap length ey ∙ size; kept = (λ k. record { bytes = ey k; len = n k }) ∙ push_passed store kind body over }
+    record { within = omega arith; kept = (λ k. record { bytes = ey k; len = n k }) ∙ push_passed store kind body over }
 
-pub put_in : (store : Store) (kind : ℕ) (body : List ℕ) (r : ℕ) (ys : List ℕ) → length store.bytes ≡ 256 → store.len ≤ 256
+pub put_in : (store : Store) (kind : ℕ) (body : List ℕ) (r : ℕ) (ys : List ℕ) → length store.bytes ≡ 256
     → r ≡ placed_length (option_bytes kind body) (drop store.len store.bytes)
     → ys ≡ take store.len store.bytes ++ placed (option_bytes kind body) (drop store.len store.bytes)
     → Put store kind body r ys
-put_in store kind body r ys size h er ey = elim (dec_le (store.len + (2 + length body)) 256) [
+put_in store kind body r ys size er ey = elim (dec_le (store.len + (2 + length body)) 256) [
   | yes f ↦
       let w = push_written store kind body r ys size f er ey in
-      record { within = omega (arith, w.0); size = ap (λ (s : Store). length s.bytes) (w.1 ∙ sym (push_kept store kind body f)) ∙ with_size store kind body size f; kept = w.1 }
+      record { within = omega (arith, w.0); kept = w.1 }
   | no f ↦ elim (dec_le (length body) 255) [
     | yes g ↦
         let b = bytes_of kind body g in
         let p = placed_not (option kind body) (drop store.len store.bytes) (simp length-drop (omega arith)) in
-        not_put store kind body r ys size h (omega arith) (er ∙ rw b p.0) (ey ∙ ap (λ (x : List ℕ). take store.len store.bytes ++ x) (rw b p.1) ∙ take-append-drop store.len store.bytes)
+        not_put store kind body r ys (omega arith) (er ∙ rw b p.0) (ey ∙ ap (λ (x : List ℕ). take store.len store.bytes ++ x) (rw b p.1) ∙ take-append-drop store.len store.bytes)
     | no g ↦
         let b = bytes_long kind body (omega arith) in
         let p = placed_none (drop store.len store.bytes) in
-        not_put store kind body r ys size h (omega arith) (er ∙ rw b p.0) (ey ∙ ap (λ (x : List ℕ). take store.len store.bytes ++ x) (rw b p.1) ∙ take-append-drop store.len store.bytes)
+        not_put store kind body r ys (omega arith) (er ∙ rw b p.0) (ey ∙ ap (λ (x : List ℕ). take store.len store.bytes ++ x) (rw b p.1) ∙ take-append-drop store.len store.bytes)
   ]
 ]
-
--- one option more of a list, and the end of it
-pub all_more : (store : Store) (o : DhcpOption) (os : List DhcpOption) → all_pushed store (o ∷ os) ≡ all_pushed (pushed store o.code o.body) os
-unfolding all_pushed
-all_more store o os = refl
-
-pub all_end : (store : Store) → all_pushed store [] ≡ store
-unfolding all_pushed
-all_end store = refl
 
 -- octets of the item before are passed over
 skip : (kind at k : ℕ) (xs : List ℕ) → place_from kind at k xs ≡ place_from kind (at + k) 0 (drop k xs)
@@ -101,35 +90,32 @@ skip kind at (suc k) (x ∷ xs) =
     let e : at + 1 + k ≡ at + suc k = omega arith in
     skip kind (at + 1) k xs ∙ rw e
 
-past : (kind at k : ℕ) (xs : List ℕ) → length xs ≤ k → place_from kind at k xs ≡ Absent
+past : (kind at k : ℕ) (xs : List ℕ) → length xs ≤ k → place_from kind at k xs ≡ None
 unfolding place_from
 past kind at k [] h = refl
 past kind at zero (x ∷ xs) h = absurd (omega arith)
 past kind at (suc k) (x ∷ xs) h = past kind (at + 1) k xs (omega arith)
 
-pub place_none : (kind at : ℕ) (l : List ℕ) → length l < 2 → place_from kind at 0 l ≡ Absent
+pub place_none : (kind at : ℕ) (l : List ℕ) → length l < 2 → place_from kind at 0 l ≡ None
 unfolding place_from
 place_none kind at [] h = refl
 place_none kind at (x ∷ []) h = refl
 place_none kind at (x ∷ y ∷ l) h = absurd (omega arith)
 
-pub place_here : (kind at : ℕ) (l : List ℕ) → 2 ≤ length l → get_or l 0 0 ≡ kind → place_from kind at 0 l ≡ At (at + 2) (get_or l 1 0)
+pub place_here : (kind at : ℕ) (l : List ℕ) → 2 ≤ length l → get_or l 0 0 ≡ kind → place_from kind at 0 l ≡ Some (record { start = at + 2; len = get_or l 1 0 })
 unfolding place_from when◌then◌else◌
 place_here kind at [] h e = absurd (omega arith)
 place_here kind at (x ∷ []) h e = absurd (omega arith)
 place_here kind at (x ∷ n ∷ l) h e = simp (eq-eqb x kind e)
 
 pub place_later : (kind at : ℕ) (l : List ℕ) → 2 ≤ length l → (get_or l 0 0 ≡ kind → ⊥)
-    → place_from kind at 0 l ≡ place_from kind (at + (2 + get_or l 1 0)) 0 (drop (2 + get_or l 1 0) l)
+    → place_from kind at 0 l ≡ place_from kind (at + 2 + get_or l 1 0) 0 (drop (get_or l 1 0) (drop 2 l))
 unfolding place_from when◌then◌else◌
 place_later kind at [] h e = absurd (omega arith)
 place_later kind at (x ∷ []) h e = absurd (omega arith)
-place_later kind at (x ∷ n ∷ l) h e =
-    let f : at + 2 + n ≡ at + (2 + n) = omega arith in
-    let g : 2 + n ≡ suc (suc n) = omega arith in
-    simp (ne_eqb x kind e) (skip kind (at + 2) n l ∙ rw (f, g))
+place_later kind at (x ∷ n ∷ l) h e = simp (ne_eqb x kind e) (skip kind (at + 2) n l)
 
-pub place_cut : (kind at : ℕ) (l : List ℕ) → 2 ≤ length l → (get_or l 0 0 ≡ kind → ⊥) → length l < 2 + get_or l 1 0 → place_from kind at 0 l ≡ Absent
+pub place_cut : (kind at : ℕ) (l : List ℕ) → 2 ≤ length l → (get_or l 0 0 ≡ kind → ⊥) → length l < 2 + get_or l 1 0 → place_from kind at 0 l ≡ None
 unfolding place_from when◌then◌else◌
 place_cut kind at [] h e c = absurd (omega arith)
 place_cut kind at (x ∷ []) h e c = absurd (omega arith)

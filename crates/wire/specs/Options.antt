@@ -1,13 +1,10 @@
 -- The options field of a reply (RFC 2132, section 2), and the data of an option in it. Document 01: "Options begin at
 -- byte 240. 0 is one byte of padding, 255 ends. An option cut short by the end of the reply ends the walk."
-use Rattle.std.specs.Prelude.{ℕ, zero, suc, ◌+◌, ◌≤◌, List, [], ◌∷◌, ◌≡◌, length, get_or, take, drop, eqb, ltb}
-use Rattle.std.proofs.Math.Option.{Option, none, some}
+use Rattle.std.specs.Prelude.{ℕ, zero, suc, ◌+◌, List, [], ◌∷◌, length, get_or, take, drop, eqb, ltb, Option, None, Some}
 use Rattle.choice.specs.Choice.{when◌then◌else◌}
 use Rattle.octets.specs.Codes.{pad_code, end_code}
-use Rattle.wire.specs.declared.options.Item.{Item}
-use Rattle.wire.specs.declared.options.Item.TheVariants.{Pad, End, Whole}
-use Rattle.wire.specs.declared.options.Found.{Found}
-use Rattle.wire.specs.declared.options.Found.TheVariants.{Nothing, At}
+use Rattle.wire.specs.declared.options.Item.{Item as Lent}
+use Rattle.wire.specs.declared.options.Options.{Options}
 
 -- An option: its code and its data.
 pub record DhcpOption : Type 0 where
@@ -15,6 +12,11 @@ pub record DhcpOption : Type 0 where
   pub body : List ℕ
 
 -- What an options field begins with: padding, the end, or an option whose length octet and data are all there.
+pub data Item : Type 0 where
+  Pad : Item
+  End : Item
+  Whole : ℕ → ℕ → Item
+
 unfoldable pub head_item : List ℕ → Item
 head_item [] = End
 head_item (code ∷ xs) =
@@ -44,24 +46,18 @@ options_of reply = options_from 0 (drop header_length reply)
 
 -- The data of the first option with a code.
 unfoldable pub first_with : ℕ → List DhcpOption → Option (List ℕ)
-first_with code [] = none
-first_with code (o ∷ os) = when eqb o.code code then some o.body else first_with code os
+first_with code [] = None
+first_with code (o ∷ os) = when eqb o.code code then Some o.body else first_with code os
 
 -- The data of an option of a reply, by its code: all reading goes through this name. Of two options with one code the
 -- first counts: the Rust decides.
 abbrev pub option_data : ℕ → List ℕ → Option (List ℕ)
 option_data code reply = first_with code (options_of reply)
 
--- For contracts within this crate, which no public one cites: the data that lies at a place of a reply.
-abbrev pub data_at : List ℕ → Found → Option (List ℕ)
-data_at reply Nothing = none
-data_at reply (At start size) = some (take size (drop start reply))
+-- For contracts within this crate, which no public one cites: an option as the walk lends it, and the options that a walk
+-- has left.
+abbrev pub option_of : Lent → DhcpOption
+option_of item = record { code = item.code; body = item.body.now }
 
-abbrev pub Inside : List ℕ → Found → Type 0
-Inside reply Nothing = Unit {0}
-Inside reply (At start size) = start + size ≤ length reply
-
--- A place where the data of an option lies, within the reply.
-pub record Finds (reply : List ℕ) (code : ℕ) (r : Found) : Type 0 where
-  pub holds : data_at reply r ≡ option_data code reply
-  pub inside : Inside reply r
+abbrev pub options_left : Options → List DhcpOption
+options_left walk = options_from 0 walk.rest.now

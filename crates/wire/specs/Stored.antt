@@ -1,12 +1,13 @@
 -- The store of options that a lease carries: items of kind, length and data, one after another from its first octet.
-use Rattle.std.specs.Prelude.{ℕ, zero, suc, ◌+◌, Bool, false, List, [], ◌∷◌, ◌++◌, length, take, drop, replicate, eqb, leb}
+use Rattle.std.specs.Prelude.{ℕ, zero, suc, ◌+◌, Bool, false, List, [], ◌∷◌, ◌++◌, length, take, drop, replicate, eqb, leb, Option, None, Some, Result, Ok, Err}
 use Rattle.choice.specs.Choice.{when◌then◌else◌}
 use Rattle.octets.specs.Runs.{over, same_bytes}
 use Rattle.octets.specs.Items.{option, whole_items}
 use Rattle.wire.specs.Options.{DhcpOption, options_of}
 use Rattle.wire.specs.declared.store.Store.{Store}
-use Rattle.wire.specs.declared.store.Got.{Got}
-use Rattle.wire.specs.declared.store.Got.TheVariants.{Absent, At, Refused}
+use Rattle.wire.specs.declared.store.Place.{Place}
+use Rattle.reasons.specs.declared.refusal.Refusal.{Refusal}
+use Rattle.reasons.specs.declared.refusal.Refusal.TheVariants.{NotWhole}
 
 -- 256 zero octets, none in use.
 abbrev pub empty_store : Store
@@ -42,15 +43,15 @@ whole_store store = when leb store.len 256 then whole_items (used store) else fa
 
 -- The first item of a kind in a list whose first octet stands at `at`, and whose first `rest` octets are data of an
 -- item begun before: where its data begins, and how long it is.
-unfoldable pub place_from : ℕ → ℕ → ℕ → List ℕ → Got
-place_from kind at rest [] = Absent
+unfoldable pub place_from : ℕ → ℕ → ℕ → List ℕ → Option Place
+place_from kind at rest [] = None
 place_from kind at (suc rest) (x ∷ xs) = place_from kind (at + 1) rest xs
-place_from kind at zero (k ∷ []) = Absent
-place_from kind at zero (k ∷ size ∷ xs) = when eqb k kind then At (at + 2) size else place_from kind (at + 2) size xs
+place_from kind at zero (k ∷ []) = None
+place_from kind at zero (k ∷ size ∷ xs) = when eqb k kind then Some (record { start = at + 2; len = size }) else place_from kind (at + 2) size xs
 
--- The first option of a kind; 9 where the store is not whole.
-unfoldable pub got : Store → ℕ → Got
-got store kind = when whole_store store then place_from kind 0 0 (used store) else Refused 9
+-- The first option of a kind; refused where the store is not whole.
+unfoldable pub got : Store → ℕ → Result (Option Place) Refusal
+got store kind = when whole_store store then Ok (place_from kind 0 0 (used store)) else Err NotWhole
 
 -- Whether two stores hold the same options: equality of the octets in use.
 abbrev pub same_options : Store → Store → Bool

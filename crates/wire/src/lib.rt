@@ -10,5 +10,5 @@ mod options;
 pub mod reply;
 pub mod store;
 
-pub use reply::{Addresses, Checked, Length};
-pub use store::{Got, Store};
+pub use reply::Addresses;
+pub use store::{Place, Store};

@@ -1,73 +1,70 @@
 // The options field of a reply: the walk over it, and the data of an option.
-ghost use Rattle.std.specs.Prelude.{◌≡◌, drop};
-ghost use Rattle.wire.specs.Options.{head_item, Finds};
+ghost use Rattle.std.specs.Prelude.{◌≡◌, option_copied};
+ghost use Rattle.std.specs.Iterator.{YieldsFirstBy, item_count};
+ghost use Rattle.wire.specs.Options.{option_data, option_of, options_left, options_of};
 
 use octets::codes::{OPT_END, OPT_PAD};
 
 // Where the options field begins: 236 octets of header and 4 of magic cookie.
 pub(crate) const OPTIONS: usize = 240;
 
-// What stands at a place of the options field.
-#[derive(Clone, Copy)]
-pub(crate) enum Item {
-    Pad,
-    End,
-    Whole { code: u8, len: usize },
+// An option of a reply: its code and its data.
+#[derive(Clone, Copy, Debug, PartialEq, Eq)]
+pub(crate) struct Item<'a> {
+    pub code: u8,
+    pub body: &'a [u8],
 }
 
-// Where the data of an option lies.
-#[derive(Clone, Copy)]
-pub(crate) enum Found {
-    Nothing,
-    At { start: usize, len: usize },
+// The options of a field, in order.
+#[derive(Drop)]
+pub(crate) struct Options<'a> {
+    rest: &'a [u8],
 }
 
-// What stands at `at`: a whole option, one octet of padding, or the end, which is the end mark, an option cut short, or
-// nothing more.
-pub(crate) fn read_item(s: &[u8], at: usize) -> Item
-    ensures { result ≡ head_item (drop at s.now) }
-{
-    if s.len() <= at {
-        return Item::End;
-    }
-    let code = s[at];
-    if code == OPT_PAD {
-        return Item::Pad;
-    }
-    if code == OPT_END {
-        return Item::End;
-    }
-    let rest = s.len() - at - 1;
-    if rest == 0 {
-        return Item::End;
-    }
-    let len = s[at + 1] as usize;
-    if len < rest {
-        return Item::Whole { code, len };
-    }
-    Item::End
-}
-
-// Where the data of the first option `code` of a reply lies.
-pub(crate) fn find(reply: &[u8], code: u8) -> Found
-    ensures { Finds reply.now code result }
-{
-    let mut at = OPTIONS;
-    while at < reply.len() {
-        match read_item(reply, at) {
-            Item::Whole { code: kind, len } => {
-                if kind == code {
-                    return Found::At { start: at + 2, len };
-                }
-                at = at + 2 + len;
-            }
-            Item::Pad => {
-                at += 1;
-            }
-            Item::End => {
-                return Found::Nothing;
-            }
+impl<'a> Options<'a> {
+    // Those of a reply.
+    pub(crate) fn of(reply: &'a [u8]) -> Options<'a>
+        ensures { options_left result ≡ options_of reply.now }
+    {
+        Options {
+            rest: reply.get(OPTIONS..).unwrap_or(&[]),
         }
     }
-    Found::Nothing
+}
+
+impl<'a> Iterator for Options<'a> {
+    type Item = Item<'a>;
+
+    ghost next_gives = { YieldsFirstBy option_of options_left };
+
+    ghost remaining = { item_count options_left };
+
+    // The next whole option. The end mark ends the field, and so does an option cut short.
+    #[tactic(auto, using(crate::proofs::Walks::field_none, crate::proofs::Walks::field_pad, crate::proofs::Walks::field_cut))]
+    fn next(&mut self) -> Option<Item<'a>> {
+        while let Some((code, rest)) = self.rest.split_first() {
+            match *code {
+                OPT_PAD => {
+                    self.rest = rest;
+                    continue;
+                }
+                OPT_END => return None,
+                _ => {}
+            }
+            let (len, rest) = rest.split_first()?;
+            let (body, rest) = rest.split_at_checked(*len as usize)?;
+            self.rest = rest;
+            return Some(Item { code: *code, body });
+        }
+        None
+    }
+}
+
+// The data of the first option `code` of a reply.
+pub(crate) fn find(reply: &[u8], code: u8) -> Option<&[u8]>
+    ensures { option_copied result ≡ option_data code reply.now }
+{
+    Options::of(reply)
+        .find(|item| item.code == code)
+        .map(|item| item.body)
 }

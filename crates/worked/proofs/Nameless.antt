@@ -1,5 +1,6 @@
 -- The messages of any client without a name, a request list and extra options: two of the ★ cases are instances. Assumes
 -- nothing.
+use Rattle.std.proofs.Common.{Some}
 use Prim.Native.Nat.{ℕ}
 use mathlib.Core.Path.{◌≡◌, ◌∙◌}
 use mathlib.Core.Bool.{false}
@@ -34,11 +35,11 @@ module _ (s : Settings) (hardware : length s.hardware ≡ 6) (unnamed : s.name_l
   module _ (lease : DhcpLease) (id : ℕ) where
     pub discover_length : (d : DiscoverState) → length (body_of s lease id (Discover d)) ≡ 262
     unfolding name_option address_option size_option option_if when◌then◌else◌
-    discover_length d = rw (no_name, default_list, no_extra) (message_length_lem (fields_of s lease id (Discover d)) [] (mask_code ∷ router_code ∷ dns_code ∷ []) [] hardware ∙ omega arith)
+    discover_length d = rw (no_name, default_list, no_extra) (message_length_lem (fields_of s lease id (Discover d)) [] (Some (mask_code ∷ router_code ∷ dns_code ∷ [])) [] hardware ∙ omega arith)
 
     pub request_length : (r : RequestState) → length (body_of s lease id (Request r)) ≡ 274
     unfolding name_option address_option size_option option_if when◌then◌else◌
-    request_length r = rw (no_name, default_list, no_extra) (message_length_lem (fields_of s lease id (Request r)) [] (mask_code ∷ router_code ∷ dns_code ∷ []) [] hardware ∙ omega arith)
+    request_length r = rw (no_name, default_list, no_extra) (message_length_lem (fields_of s lease id (Request r)) [] (Some (mask_code ∷ router_code ∷ dns_code ∷ [])) [] hardware ∙ omega arith)
 
     pub discover_udp_length : (d : DiscoverState) → word16 (get_or (datagram_for s lease id (Discover d)) 4 0) (get_or (datagram_for s lease id (Discover d)) 5 0) ≡ 270
     unfolding datagram_for datagram

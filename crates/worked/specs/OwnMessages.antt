@@ -1,11 +1,10 @@
 -- The ★ cases of messages (document 01) over the client's own message: of a post that creation takes.
-use Rattle.std.specs.Prelude.{ℕ, ◌≡◌, refl, false, List, [], ◌∷◌, map, length, get_or, replicate}
+use Rattle.std.specs.Prelude.{ℕ, ◌≡◌, refl, false, List, [], ◌∷◌, map, length, get_or, replicate, None}
 use Rattle.clock.specs.Durations.{duration}
 use Rattle.clock.specs.Moments.{moment}
 use Rattle.choice.specs.Choice.{when◌then◌else◌}
 use Rattle.octets.specs.Words.{word16, word32}
 use Rattle.octets.specs.Items.{whole_from}
-use Rattle.octets.specs.declared.number.MaybeNumber.TheVariants.{None}
 use Rattle.machine.specs.declared.decide.Sending.{Sending}
 use Rattle.machine.specs.declared.decide.Sending.TheVariants.{Discover, Request}
 use Rattle.message.specs.Messages.{message, option_if, address_option, size_option, name_option}

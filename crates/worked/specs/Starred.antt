@@ -1,5 +1,5 @@
 -- The cases that document 01 marks ★, as one table with one theorem. The masks are three cases of one ★.
-use Rattle.std.specs.Prelude.{ℕ, ◌≡◌, refl, true, List, [], ◌∷◌, map, length, get_or}
+use Rattle.std.specs.Prelude.{ℕ, ◌≡◌, refl, List, [], ◌∷◌, map, length, get_or, Option, None, Some}
 use Rattle.clock.specs.Durations.{duration}
 use Rattle.clock.specs.Moments.{plus, moment, before, due, rest, earlier}
 use Rattle.clock.specs.Waits.{standard_waits}
@@ -7,9 +7,6 @@ use Rattle.choice.specs.Choice.{when◌then◌else◌}
 use Rattle.clock.specs.Generator.{generator, drawn32, next_state, output_of}
 use Rattle.octets.specs.Words.{word16, word32}
 use Rattle.octets.specs.Addresses.{prefix_len, length_up_to}
-use Rattle.octets.specs.declared.number.MaybeNumber.{MaybeNumber}
-use Rattle.octets.specs.declared.number.MaybeNumber.TheVariants.{None, Some}
-use Rattle.clock.specs.declared.duration.MaybeDuration.TheVariants as time
 use Rattle.machine.specs.Times.{given, lease_time, row_of, times_of}
 use Rattle.machine.specs.States.{renewing}
 use Rattle.machine.specs.Decisions.{decided, decided_renewing, next_retry, rebinds}
@@ -29,13 +26,13 @@ abbrev case : List ℕ → List ℕ → Case
 case given stated = record { given = given; stated = stated }
 
 -- A number that may be missing, as a list.
-abbrev numbers : MaybeNumber → List ℕ
+abbrev numbers : Option ℕ → List ℕ
 numbers None = []
 numbers (Some n) = n ∷ []
 
 -- A message of a post with hardware address 02:00:00:00:00:01 and MTU 1,500, without a name, with the default request list
 -- and no extra options.
-abbrev fields : ℕ → MaybeNumber → MaybeNumber → Message
+abbrev fields : ℕ → Option ℕ → Option ℕ → Message
 fields kind requested server = record {
   kind = kind;
   id = 1;
@@ -44,14 +41,13 @@ fields kind requested server = record {
   requested = requested;
   server = server;
   size = Some 1432;
-  asks = true;
 }
 
 abbrev discover : List ℕ
-discover = message (fields 1 None None) [] (1 ∷ 3 ∷ 6 ∷ []) []
+discover = message (fields 1 None None) [] (Some (1 ∷ 3 ∷ 6 ∷ [])) []
 
 abbrev requesting : List ℕ
-requesting = message (fields 3 (Some (word32 10 0 0 7)) (Some (word32 10 0 0 1))) [] (1 ∷ 3 ∷ 6 ∷ []) []
+requesting = message (fields 3 (Some (word32 10 0 0 7)) (Some (word32 10 0 0 1))) [] (Some (1 ∷ 3 ∷ 6 ∷ [])) []
 
 -- The length field of a message's datagram.
 abbrev udp_length : List ℕ → ℕ
@@ -62,8 +58,8 @@ udp_length body = word16 (get_or (udp (0 ∷ 0 ∷ []) body) 4 0) (get_or (udp (
 abbrev times_of_lease : ℕ → Row → List ℕ
 times_of_lease l row = (times_of row l).renew.millis ∷ (times_of row l).rebind.millis ∷ l ∷ []
 
-abbrev leased : MaybeNumber → MaybeNumber → MaybeNumber → List ℕ
-leased l t1 t2 = times_of_lease (lease_time l time.None) (row_of (given t1) (given t2) (lease_time l time.None))
+abbrev leased : Option ℕ → Option ℕ → Option ℕ → List ℕ
+leased l t1 t2 = times_of_lease (lease_time l None) (row_of (given t1) (given t2) (lease_time l None))
 
 -- When the poll of a client in this state is next wanted, after one at a moment.
 abbrev next_wanted : ClientState → ℕ → ℕ

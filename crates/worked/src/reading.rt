@@ -1,13 +1,15 @@
 // Document 01's examples of addresses, replies and the store, and option walks from RFC 2132's text.
-use crate::{line, number, test};
+use made::{Header, YesNo, answered, found, line, test};
 use octets::address::x_is_unicast;
-use octets::span::up_to;
+use octets::span::{put_bytes_at, up_to};
+use reasons::{PassedOver, Refusal};
 use std::io;
+use std::net::Ipv4Addr;
 use wire::reply::{
     check_header, is_addressed_to, message_type, option_address, option_addresses, option_len,
     option_octet, option_seconds, router, transaction_id, your_ip,
 };
-use wire::{Checked, Got, Length, Store};
+use wire::{Place, Store};
 
 pub fn examples(rt: &impl Print) -> io::Result<()> {
     addresses(rt)?;
@@ -23,91 +25,69 @@ pub fn examples(rt: &impl Print) -> io::Result<()> {
 
 // "refuses 0.0.0.0, 255.255.255.255 and 224.0.0.0 to 239.255.255.255 only"
 fn addresses(rt: &impl Print) -> io::Result<()> {
-    test(rt, b"0.0.0.0 is unicast", x_is_unicast(0))?;
-    test(rt, b"0.0.0.1 is unicast", x_is_unicast(1))?;
-    test(rt, b"223.255.255.255 is unicast", x_is_unicast(0xdfffffff))?;
-    test(rt, b"224.0.0.0 is unicast", x_is_unicast(0xe0000000))?;
-    test(rt, b"239.255.255.255 is unicast", x_is_unicast(0xefffffff))?;
-    test(rt, b"240.0.0.0 is unicast", x_is_unicast(0xf0000000))?;
-    test(rt, b"255.255.255.254 is unicast", x_is_unicast(0xfffffffe))?;
-    test(rt, b"255.255.255.255 is unicast", x_is_unicast(0xffffffff))
+    for address in [
+        0, 1, 0xdfffffff, 0xe0000000, 0xefffffff, 0xf0000000, 0xfffffffe, 0xffffffff,
+    ] {
+        let unicast = YesNo(x_is_unicast(address));
+        println!(rt; "{} is unicast: {unicast}", Ipv4Addr::from(address))?;
+    }
+    Ok(())
 }
 
 // A reply of 600 octets: id 1 for hardware address 0, your-address 10.0.0.7, these options, and padding.
 fn reply_with(options: &[u8]) -> [u8; 600] {
-    let mut reply = [0u8; 600];
-    reply[0] = 2;
-    reply[1] = 1;
-    reply[2] = 6;
-    reply[7] = 1;
-    reply[16] = 10;
-    reply[19] = 7;
-    octets::span::put_bytes_at(&mut reply, 236, &[99, 130, 83, 99]);
-    octets::span::put_bytes_at(&mut reply, 240, options);
-    reply
+    let header = Header {
+        id: 1,
+        your: 0x0a000007,
+        hardware: [0; 6],
+    };
+    header.reply(options)
 }
 
-fn checked(rt: &impl Print, asked: &[u8], check: Checked) -> io::Result<()> {
-    match check {
-        Checked::Passes => line(rt, asked, 0),
-        Checked::PassedOver(number) => line(rt, asked, number as u64),
-    }
+// 0, or the number of the reason to pass it over.
+fn checked(rt: &impl Print, asked: &str, check: Result<(), PassedOver>) -> io::Result<()> {
+    line(rt, asked, check.map_or_else(u32::from, |_| 0))
 }
 
 // "20 under 240 bytes (239); 21 header (opcode 1)", and the other three that are 21
 fn header(rt: &impl Print) -> io::Result<()> {
     let good = reply_with(&[]);
-    checked(
-        rt,
-        b"a reply of 240 octets",
-        check_header(up_to(&good, 240)),
-    )?;
-    checked(
-        rt,
-        b"a reply of 239 octets",
-        check_header(up_to(&good, 239)),
-    )?;
-    checked(rt, b"a reply of no octets", check_header(up_to(&good, 0)))?;
+    checked(rt, "a reply of 240 octets", check_header(up_to(&good, 240)))?;
+    checked(rt, "a reply of 239 octets", check_header(up_to(&good, 239)))?;
+    checked(rt, "a reply of no octets", check_header(up_to(&good, 0)))?;
     let mut other = good;
     other[0] = 1;
-    checked(rt, b"opcode 1", check_header(&other))?;
+    checked(rt, "opcode 1", check_header(&other))?;
     header_fields(rt, good)
 }
 
 fn header_fields(rt: &impl Print, good: [u8; 600]) -> io::Result<()> {
     let mut kind = good;
     kind[1] = 2;
-    checked(rt, b"hardware type 2", check_header(&kind))?;
+    checked(rt, "hardware type 2", check_header(&kind))?;
     let mut length = good;
     length[2] = 16;
-    checked(rt, b"hardware length 16", check_header(&length))?;
+    checked(rt, "hardware length 16", check_header(&length))?;
     let mut magic = good;
     magic[239] = 98;
-    checked(rt, b"another magic cookie", check_header(&magic))?;
+    checked(rt, "another magic cookie", check_header(&magic))?;
     fields(rt, &good)
 }
 
 fn fields(rt: &impl Print, good: &[u8]) -> io::Result<()> {
-    number(rt, b"transaction id", transaction_id(good))?;
-    number(
+    found(rt, "transaction id", transaction_id(good))?;
+    found(
         rt,
-        b"transaction id of 7 octets",
+        "transaction id of 7 octets",
         transaction_id(up_to(good, 7)),
     )?;
-    number(rt, b"your-address 10.0.0.7", your_ip(good))?;
-    test(rt, b"for 00:00:00:00:00:00", is_addressed_to(good, [0; 6]))?;
+    found(rt, "your-address 10.0.0.7", your_ip(good))?;
+    test(rt, "for 00:00:00:00:00:00", is_addressed_to(good, [0; 6]))?;
     test(
         rt,
-        b"for 00:00:00:00:00:01",
+        "for 00:00:00:00:00:01",
         is_addressed_to(good, [0, 0, 0, 0, 0, 1]),
     )
-}
-
-fn length(rt: &impl Print, asked: &[u8], length: Length) -> io::Result<()> {
-    match length {
-        Length::Absent => crate::none(rt, asked),
-        Length::Octets(n) => line(rt, asked, n as u64),
-    }
 }
 
 // RFC 2132: 3.1 "The code for the pad option is 0, and its length is 1 octet", 3.2 "The code for the end option is 255, and
@@ -122,39 +102,39 @@ fn walks(rt: &impl Print) -> io::Result<()> {
 }
 
 fn whole(rt: &impl Print, padded: &[u8]) -> io::Result<()> {
-    number(rt, b"53 after two pads", message_type(padded))?;
-    length(rt, b"3 after a pad", option_len(padded, 3))?;
-    length(rt, b"51 after the end mark", option_len(padded, 51))?;
-    length(rt, b"code 0", option_len(padded, 0))?;
-    length(rt, b"code 255", option_len(padded, 255))
+    found(rt, "53 after two pads", message_type(padded))?;
+    found(rt, "3 after a pad", option_len(padded, 3))?;
+    found(rt, "51 after the end mark", option_len(padded, 51))?;
+    found(rt, "code 0", option_len(padded, 0))?;
+    found(rt, "code 255", option_len(padded, 255))
 }
 
 // The options take octets 240 to 251: 3 is whole with 252 octets, and cut with 251.
 fn cut(rt: &impl Print, padded: &[u8]) -> io::Result<()> {
-    length(
+    found(
         rt,
-        b"3 of a reply that ends with it",
+        "3 of a reply that ends with it",
         option_len(up_to(padded, 252), 3),
     )?;
-    length(rt, b"3 cut by one octet", option_len(up_to(padded, 251), 3))?;
-    number(
+    found(rt, "3 cut by one octet", option_len(up_to(padded, 251), 3))?;
+    found(
         rt,
-        b"53 before an option that is cut",
+        "53 before an option that is cut",
         message_type(up_to(padded, 251)),
     )?;
-    length(
+    found(
         rt,
-        b"3 cut after its code",
+        "3 cut after its code",
         option_len(up_to(padded, 247), 3),
     )?;
-    number(
+    found(
         rt,
-        b"53 of a reply without options",
+        "53 of a reply without options",
         message_type(up_to(padded, 240)),
     )?;
-    number(
+    found(
         rt,
-        b"53 of a reply of no octets",
+        "53 of a reply of no octets",
         message_type(up_to(padded, 0)),
     )
 }
@@ -162,13 +142,13 @@ fn cut(rt: &impl Print, padded: &[u8]) -> io::Result<()> {
 // "Of two options with one code the first counts"; a first 53 of 2 octets before a good one counts, and a first 51 of 5
 fn equal_codes(rt: &impl Print) -> io::Result<()> {
     let two = reply_with(&[51, 4, 0, 0, 0, 60, 51, 4, 0, 0, 0, 90, 255]);
-    number(rt, b"51 of 60 s, then 51 of 90 s", option_seconds(&two, 51))?;
+    found(rt, "51 of 60 s, then 51 of 90 s", option_seconds(&two, 51))?;
     let types = reply_with(&[53, 2, 5, 5, 53, 1, 5, 255]);
-    number(rt, b"53 of 2 octets, then a good one", message_type(&types))?;
+    found(rt, "53 of 2 octets, then a good one", message_type(&types))?;
     let times = reply_with(&[51, 5, 0, 0, 0, 60, 0, 51, 4, 0, 0, 0, 90, 255]);
-    number(
+    found(
         rt,
-        b"51 of 5 octets, then a good one",
+        "51 of 5 octets, then a good one",
         option_seconds(&times, 51),
     )
 }
@@ -180,27 +160,27 @@ fn lengths(rt: &impl Print) -> io::Result<()> {
 }
 
 fn lengths_of(rt: &impl Print, five: &[u8]) -> io::Result<()> {
-    number(
+    found(
         rt,
-        b"address of 5 octets, 10.0.0.1",
+        "address of 5 octets, 10.0.0.1",
         option_address(five, 54),
     )?;
-    number(rt, b"address of 3 octets", option_address(five, 58))?;
-    number(rt, b"seconds of 3 octets", option_seconds(five, 58))?;
-    number(rt, b"address of no octets", option_address(five, 59))?;
-    length(rt, b"length of no octets", option_len(five, 59))?;
-    number(rt, b"octet 4 of 5", option_octet(five, 54, 4))?;
-    number(rt, b"octet 5 of 5", option_octet(five, 54, 5))
+    found(rt, "address of 3 octets", option_address(five, 58))?;
+    found(rt, "seconds of 3 octets", option_seconds(five, 58))?;
+    found(rt, "address of no octets", option_address(five, 59))?;
+    found(rt, "length of no octets", option_len(five, 59))?;
+    found(rt, "octet 4 of 5", option_octet(five, 54, 4))?;
+    found(rt, "octet 5 of 5", option_octet(five, 54, 5))
 }
 
 // "Router: first address, if unicast"
 fn routers(rt: &impl Print) -> io::Result<()> {
     let good = reply_with(&[3, 8, 10, 0, 0, 1, 0, 0, 0, 0, 255]);
-    number(rt, b"routers 10.0.0.1, 0.0.0.0", router(&good))?;
+    found(rt, "routers 10.0.0.1, 0.0.0.0", router(&good))?;
     let zero = reply_with(&[3, 8, 0, 0, 0, 0, 10, 0, 0, 1, 255]);
-    number(rt, b"routers 0.0.0.0, 10.0.0.1", router(&zero))?;
+    found(rt, "routers 0.0.0.0, 10.0.0.1", router(&zero))?;
     let none = reply_with(&[255]);
-    number(rt, b"no router option", router(&none))
+    found(rt, "no router option", router(&none))
 }
 
 // "DNS: groups of 4, unicast only, first 3"
@@ -210,35 +190,35 @@ fn name_servers(rt: &impl Print) -> io::Result<()> {
     ]);
     servers(
         rt,
-        b"DNS 0.0.0.0, 1.1.1.1, 224.0.0.1, 2.2.2.2 and 3 octets",
+        "DNS 0.0.0.0, 1.1.1.1, 224.0.0.1, 2.2.2.2 and 3 octets",
         option_addresses(&mixed, 6),
     )?;
     let four = reply_with(&[6, 16, 1, 1, 1, 1, 2, 2, 2, 2, 3, 3, 3, 3, 4, 4, 4, 4, 255]);
     servers(
         rt,
-        b"DNS 1.1.1.1, 2.2.2.2, 3.3.3.3, 4.4.4.4",
+        "DNS 1.1.1.1, 2.2.2.2, 3.3.3.3, 4.4.4.4",
         option_addresses(&four, 6),
     )?;
-    servers(rt, b"no DNS option", option_addresses(&four, 5))
+    servers(rt, "no DNS option", option_addresses(&four, 5))
 }
 
 // The count, then the three places.
-fn servers(rt: &impl Print, asked: &[u8], found: wire::Addresses) -> io::Result<()> {
-    line(rt, asked, found.count as u64)?;
-    let list = found.list;
-    line(rt, b"first", list[0] as u64)?;
-    line(rt, b"second", list[1] as u64)?;
-    line(rt, b"third", list[2] as u64)
+fn servers(rt: &impl Print, asked: &str, found: wire::Addresses) -> io::Result<()> {
+    line(rt, asked, found.count)?;
+    let [first, second, third] = found.list;
+    line(rt, "first", first)?;
+    line(rt, "second", second)?;
+    line(rt, "third", third)
 }
 
-fn got(rt: &impl Print, asked: &[u8], found: Got) -> io::Result<()> {
-    match found {
-        Got::Absent => crate::none(rt, asked),
-        Got::At { place, len } => {
-            line(rt, asked, place as u64)?;
-            line(rt, b"of length", len as u64)
+fn got(rt: &impl Print, asked: &str, place: Result<Option<Place>, Refusal>) -> io::Result<()> {
+    match place {
+        Ok(Some(place)) => {
+            line(rt, asked, place.start)?;
+            line(rt, "of length", place.len)
         }
-        Got::Refused(number) => crate::refused(rt, asked, number),
+        Ok(None) => found::<u32>(rt, asked, None),
+        Err(refusal) => answered::<u32>(rt, asked, Err(refusal)),
     }
 }
 
@@ -248,12 +228,12 @@ fn store(rt: &impl Print) -> io::Result<()> {
     let mut long = reply_with(&[
         53, 1, 5, 54, 4, 10, 0, 0, 1, 1, 4, 255, 255, 255, 0, 100, 240,
     ]);
-    octets::span::put_bytes_at(&mut long, 497, &[101, 1, 7, 255]);
+    put_bytes_at(&mut long, 497, &[101, 1, 7, 255]);
     let kept = Store::of_reply(&long);
-    line(rt, b"octets in use without 100", kept.len as u64)?;
-    got(rt, b"53 in the store", kept.get(53))?;
-    got(rt, b"100 of 240 octets in the store", kept.get(100))?;
-    got(rt, b"101 in the store", kept.get(101))?;
+    line(rt, "octets in use without 100", kept.len)?;
+    got(rt, "53 in the store", kept.get(53))?;
+    got(rt, "100 of 240 octets in the store", kept.get(100))?;
+    got(rt, "101 in the store", kept.get(101))?;
     full(rt)
 }
 
@@ -261,29 +241,29 @@ fn full(rt: &impl Print) -> io::Result<()> {
     let mut long = reply_with(&[
         53, 1, 5, 54, 4, 10, 0, 0, 1, 1, 4, 255, 255, 255, 0, 100, 239,
     ]);
-    octets::span::put_bytes_at(&mut long, 496, &[101, 1, 7, 255]);
+    put_bytes_at(&mut long, 496, &[101, 1, 7, 255]);
     let kept = Store::of_reply(&long);
-    line(rt, b"octets in use with 100", kept.len as u64)?;
-    got(rt, b"100 of 239 octets in the store", kept.get(100))?;
-    got(rt, b"101 in a full store", kept.get(101))
+    line(rt, "octets in use with 100", kept.len)?;
+    got(rt, "100 of 239 octets in the store", kept.get(100))?;
+    got(rt, "101 in a full store", kept.get(101))
 }
 
 // A store that is not whole: an item cut short, and more in use than there is. Unused octets don't count.
 fn stores_apart(rt: &impl Print) -> io::Result<()> {
     let one = Store::new().push(12, &[65, 66]);
-    got(rt, b"12, 2, 65, 66", one.get(12))?;
+    got(rt, "12, 2, 65, 66", one.get(12))?;
     let mut cut = one;
     cut.len = 3;
-    got(rt, b"12, 2, 65", cut.get(12))?;
+    got(rt, "12, 2, 65", cut.get(12))?;
     let mut over = one;
     over.len = 257;
-    got(rt, b"257 octets in use", over.get(12))?;
+    got(rt, "257 octets in use", over.get(12))?;
     let mut other = one;
     other.bytes[4] = 9;
     test(
         rt,
-        b"stores that differ past their use are equal",
+        "stores that differ past their use are equal",
         one.equals(other),
     )?;
-    test(rt, b"stores that differ in use are equal", one.equals(cut))
+    test(rt, "stores that differ in use are equal", one.equals(cut))
 }

@@ -1,7 +1,9 @@
 // What the lease of an ACK is made of: address and prefix, server, router, DNS servers, and how many octets are stored.
-use crate::made::{NONE, ack, maskless, told};
-use crate::print::{print, print_lease};
-use octets::span::{put_bytes_at, up_to};
+use crate::shown::Whole;
+use made::{HEADER, ack, with};
+use octets::codes::ACK;
+use octets::span::up_to;
+use post::renewing;
 use std::io;
 
 pub fn examples(rt: &impl Print) -> io::Result<()> {
@@ -12,66 +14,61 @@ pub fn examples(rt: &impl Print) -> io::Result<()> {
     stores(rt)
 }
 
-fn leased(rt: &impl Print, asked: &[u8], reply: [u8; 600]) -> io::Result<()> {
-    leased_by(rt, asked, &reply)
+fn leased(rt: &impl Print, asked: &str, reply: &[u8]) -> io::Result<()> {
+    let lease = Whole(renewing(reply).lease);
+    println!(rt; "{asked}: {lease}")
 }
 
-fn leased_by(rt: &impl Print, asked: &[u8], reply: &[u8]) -> io::Result<()> {
-    let client = told(reply, NONE, 0);
-    print(rt, asked)?;
-    print_lease(rt, client.lease)?;
-    print(rt, b"\n")
+// An ACK with no options but these behind its identifier.
+fn maskless(options: &[u8]) -> [u8; 600] {
+    HEADER.typed(ACK, options)
 }
 
-// An ACK with options from 255 on, and others at a place.
-pub fn with(first: &[u8], at: usize, others: &[u8]) -> [u8; 600] {
-    let mut reply = ack(first);
-    put_bytes_at(&mut reply, at, others);
-    reply
+// An ACK with an option 100 of so many octets, then 101.
+pub fn long_option(count: u8) -> [u8; 600] {
+    with(ack(&[100, count]), 257 + count as usize, &[101, 1, 7])
 }
 
 // "0.0.0.0 gives 0, 255.255.255.255 gives 32"; "takes the first 4 bytes of longer data".
 fn masks(rt: &impl Print) -> io::Result<()> {
-    leased(rt, b"mask 0.0.0.0", maskless(&[1, 4, 0, 0, 0, 0]))?;
+    leased(rt, "mask 0.0.0.0", &maskless(&[1, 4, 0, 0, 0, 0]))?;
     leased(
         rt,
-        b"mask 255.255.255.255",
-        maskless(&[1, 4, 255, 255, 255, 255]),
+        "mask 255.255.255.255",
+        &maskless(&[1, 4, 255, 255, 255, 255]),
     )?;
     leased(
         rt,
-        b"mask of 5 octets",
-        maskless(&[1, 5, 255, 255, 255, 0, 7]),
+        "mask of 5 octets",
+        &maskless(&[1, 5, 255, 255, 255, 0, 7]),
     )
 }
 
 // "Router: first address, if unicast."
 fn routers(rt: &impl Print) -> io::Result<()> {
-    leased(rt, b"router 10.0.0.1", ack(&[3, 4, 10, 0, 0, 1]))?;
+    leased(rt, "router 10.0.0.1", &ack(&[3, 4, 10, 0, 0, 1]))?;
     leased(
         rt,
-        b"routers 0.0.0.0, 10.0.0.1",
-        ack(&[3, 8, 0, 0, 0, 0, 10, 0, 0, 1]),
+        "routers 0.0.0.0, 10.0.0.1",
+        &ack(&[3, 8, 0, 0, 0, 0, 10, 0, 0, 1]),
     )?;
-    leased(rt, b"router of 5 octets", ack(&[3, 5, 10, 0, 0, 4, 9]))?;
-    leased(rt, b"router of 3 octets", ack(&[3, 3, 10, 0, 0]))
+    leased(rt, "router of 5 octets", &ack(&[3, 5, 10, 0, 0, 4, 9]))?;
+    leased(rt, "router of 3 octets", &ack(&[3, 3, 10, 0, 0]))
 }
 
 // "DNS: groups of 4, unicast only, first 3."
 fn name_servers(rt: &impl Print) -> io::Result<()> {
     leased(
         rt,
-        b"DNS 0.0.0.0, 1.1.1.1, 224.0.0.1, 2.2.2.2 and 3 octets",
-        with(
-            &[6, 19, 0, 0, 0, 0, 1, 1, 1, 1, 224, 0, 0, 1],
-            269,
-            &[2, 2, 2, 2, 9, 9, 9],
-        ),
+        "DNS 0.0.0.0, 1.1.1.1, 224.0.0.1, 2.2.2.2 and 3 octets",
+        &ack(&[
+            6, 19, 0, 0, 0, 0, 1, 1, 1, 1, 224, 0, 0, 1, 2, 2, 2, 2, 9, 9, 9,
+        ]),
     )?;
     leased(
         rt,
-        b"DNS 1.1.1.1, 2.2.2.2, 3.3.3.3, 4.4.4.4",
-        ack(&[6, 16, 1, 1, 1, 1, 2, 2, 2, 2, 3, 3, 3, 3, 4, 4, 4, 4]),
+        "DNS 1.1.1.1, 2.2.2.2, 3.3.3.3, 4.4.4.4",
+        &ack(&[6, 16, 1, 1, 1, 1, 2, 2, 2, 2, 3, 3, 3, 3, 4, 4, 4, 4]),
     )
 }
 
@@ -79,24 +76,16 @@ fn name_servers(rt: &impl Print) -> io::Result<()> {
 fn walks(rt: &impl Print) -> io::Result<()> {
     leased(
         rt,
-        b"padding, 12, padding, the end mark, 13",
-        ack(&[0, 0, 12, 1, 65, 0, 255, 13, 1, 66]),
+        "padding, 12, padding, the end mark, 13",
+        &ack(&[0, 0, 12, 1, 65, 0, 255, 13, 1, 66]),
     )?;
     let whole = ack(&[12, 4, 65, 66, 67, 68]);
-    leased_by(rt, b"12 cut short", up_to(&whole, 260))
+    leased(rt, "12 cut short", up_to(&whole, 260))
 }
 
 // "An option that does not fit the store is skipped; a later, smaller one is still kept." 53, 54 and 1 take 15 octets; the data
 // of option 100 begins at 257.
 fn stores(rt: &impl Print) -> io::Result<()> {
-    leased(
-        rt,
-        b"option 100 of 240 octets, then 101",
-        with(&[100, 240], 497, &[101, 1, 7]),
-    )?;
-    leased(
-        rt,
-        b"option 100 of 239 octets, then 101",
-        with(&[100, 239], 496, &[101, 1, 7]),
-    )
+    leased(rt, "option 100 of 240 octets, then 101", &long_option(240))?;
+    leased(rt, "option 100 of 239 octets, then 101", &long_option(239))
 }

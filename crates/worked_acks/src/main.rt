@@ -7,8 +7,8 @@ use std::io;
 
 mod leases;
 mod lookups;
-mod made;
-mod print;
+mod shown;
+mod taken;
 mod times;
 
 fn main(rt: HostRuntime) -> io::Result<()> {

@@ -1,78 +1,68 @@
-// Every call on a client and its tables: the number that each gives, 0 for none, and whether both came back as they were.
-use crate::made::{SERVER, plain_ack};
-use crate::print::{numbered, print_kept};
-use crate::same::{same_client, same_tables};
-use client::{Client, ReplyOutcome, ResetOutcome, Standing};
+// Every call on a client and its tables.
+use crate::clients::plain_ack;
+use client::{Client, NotTaken};
 use clock::Instant;
-use std::io;
-use tables::{Has, Tables};
-use wire::Got;
+use made::SERVER;
+use reasons::Refusal;
+use std::fmt;
+use tables::Tables;
 
-pub fn every_call(rt: &impl Print, client: Client, tables: Tables) -> io::Result<()> {
-    let replied = reply(rt, client, tables)?;
-    let restarted = reset(rt, client, tables)?;
-    look_ups(rt, client)?;
-    print_kept(rt, replied & restarted)
+// Why each call is refused, or not taken, and whether reply and reset left both as they were.
+#[derive(Clone, Copy)]
+pub struct Calls {
+    reply: Option<NotTaken>,
+    reset: Option<Refusal>,
+    lease: Option<Refusal>,
+    get: Option<Refusal>,
+    state: Option<Refusal>,
+    kept: bool,
 }
 
-// A plain ACK at 7 ms.
-fn reply(rt: &impl Print, client: Client, tables: Tables) -> io::Result<bool> {
-    let plain = plain_ack();
-    let told = client.process(tables, SERVER, &plain, Instant { millis: 7 });
-    let outcome = told.outcome;
-    numbered(rt, b": reply ", reply_number(outcome))?;
-    Ok(same_client(client, told.client) & same_tables(tables, told.tables))
-}
-
-fn reply_number(outcome: ReplyOutcome) -> u32 {
-    match outcome {
-        ReplyOutcome::Taken { purge: _ } => 0,
-        ReplyOutcome::PassedOver(number) => number,
-        ReplyOutcome::Refused(number) => number,
+impl Calls {
+    // The reply is a plain ACK at 7 ms.
+    pub fn on(client: Client, tables: Tables) -> Calls {
+        let told = client.process(tables, SERVER, &plain_ack(), Instant { millis: 7 });
+        let reset = client.reset(tables);
+        Calls {
+            reply: told.outcome.err(),
+            reset: reset.outcome.err(),
+            lease: client.lease().err(),
+            get: client.get(53).err(),
+            state: client.state().err(),
+            kept: (told.client, told.tables) == (client, tables)
+                && (reset.client, reset.tables) == (client, tables),
+        }
     }
 }
 
-fn reset(rt: &impl Print, client: Client, tables: Tables) -> io::Result<bool> {
-    let done = client.reset(tables);
-    let outcome = done.outcome;
-    numbered(rt, b", reset ", reset_number(outcome))?;
-    Ok(same_client(client, done.client) & same_tables(tables, done.tables))
-}
+// The number of a reason, 0 where there is none.
+#[derive(Clone, Copy)]
+struct Number<E>(Option<E>);
 
-fn reset_number(outcome: ResetOutcome) -> u32 {
-    match outcome {
-        ResetOutcome::Done { purge: _ } => 0,
-        ResetOutcome::Refused(number) => number,
+impl<E: Copy> fmt::Display for Number<E>
+where
+    u32: From<E>,
+{
+    fn fmt<W: fmt::Write>(&self, f: &mut fmt::Formatter<W>) -> fmt::Result {
+        write!(f, "{}", self.0.map_or(0, u32::from))
     }
 }
 
-fn look_ups(rt: &impl Print, client: Client) -> io::Result<()> {
-    let leased = client.lease();
-    let held = leased.held;
-    numbered(rt, b", lease ", lease_number(held))?;
-    numbered(rt, b", get ", got_number(client.get(53)))?;
-    numbered(rt, b", state ", state_number(client.state()))
-}
-
-fn lease_number(held: Has) -> u32 {
-    match held {
-        Has::No => 0,
-        Has::Yes => 0,
-        Has::Refused(number) => number,
-    }
-}
-
-fn got_number(got: Got) -> u32 {
-    match got {
-        Got::Absent => 0,
-        Got::At { place: _, len: _ } => 0,
-        Got::Refused(number) => number,
-    }
-}
-
-fn state_number(standing: Standing) -> u32 {
-    match standing {
-        Standing::In(_) => 0,
-        Standing::Refused(number) => number,
+impl fmt::Display for Calls {
+    fn fmt<W: fmt::Write>(&self, f: &mut fmt::Formatter<W>) -> fmt::Result {
+        let reply = Number(self.reply);
+        let reset = Number(self.reset);
+        let lease = Number(self.lease);
+        let get = Number(self.get);
+        let state = Number(self.state);
+        let changed = if self.kept {
+            "nothing changed"
+        } else {
+            "changed"
+        };
+        write!(
+            f,
+            "reply {reply}, reset {reset}, lease {lease}, get {get}, state {state}, {changed}"
+        )
     }
 }

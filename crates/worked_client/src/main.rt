@@ -1,4 +1,4 @@
-// Document 01's examples of creation and of number 9, each with its neighbours, and the order of creation's checks.
+// Document 01's examples of creation and of NotWhole (9), each with its neighbours, and the order of creation's checks.
 
 #![tactic(auto)]
 
@@ -6,10 +6,8 @@ use std::io;
 
 mod broken;
 mod calls;
+mod clients;
 mod creation;
-mod made;
-mod print;
-mod same;
 
 fn main(rt: HostRuntime) -> io::Result<()> {
     creation::examples(&rt)?;

@@ -1,67 +1,91 @@
-// Calls on a post, each a line: what was asked and what came, then the post as it stands.
-use crate::made::{Post, SERVER, client, post_of};
-use crate::print::{print, print_purge, show};
-use client::{ReplyOutcome, ResetOutcome};
+// Calls on a post, each a line: what was asked and what came, then the post as it stands: the client's state and lease, then
+// the tables: generation, addresses, default route; a star marks an entry of DHCP's.
+use client::{Client, NotTaken, Settled};
 use clock::Instant;
-use std::io;
+use made::{SERVER, Shown};
+use std::{fmt, io};
+use tables::Tables;
 
-// A reply of the server's, at a moment.
-pub fn told(
-    rt: &impl Print,
-    asked: &[u8],
-    post: Post,
-    reply: [u8; 600],
-    millis: u32,
-) -> io::Result<Post> {
-    told_by(rt, asked, post, SERVER, &reply, millis)
+// A client and its tables, which each call leaves to the next. Not the crate's post: no call here draws from a generator, and each
+// prints its line.
+#[derive(Clone, Copy)]
+pub struct Post {
+    pub client: Client,
+    pub tables: Tables,
 }
 
-pub fn told_by(
-    rt: &impl Print,
-    asked: &[u8],
-    before: Post,
-    source: u32,
-    reply: &[u8],
-    millis: u32,
-) -> io::Result<Post> {
-    let client = client(before);
-    let told = client.process(before.tables, source, reply, Instant { millis });
-    let outcome = told.outcome;
-    let after = post_of(told.client, told.tables);
-    print(rt, asked)?;
-    print_outcome(rt, outcome)?;
-    show(rt, after)?;
-    Ok(after)
-}
-
-fn print_outcome(rt: &impl Print, outcome: ReplyOutcome) -> io::Result<()> {
-    match outcome {
-        ReplyOutcome::Taken { purge } => {
-            print(rt, b": taken")?;
-            print_purge(rt, purge)
+impl Post {
+    pub fn after<T: Copy>(settled: Settled<T>) -> Post {
+        Post {
+            client: settled.client,
+            tables: settled.tables,
         }
-        ReplyOutcome::PassedOver(_) => print(rt, b": passed over |"),
-        ReplyOutcome::Refused(_) => print(rt, b": refused |"),
+    }
+
+    // A reply of the server's, at a moment.
+    pub fn told(self, rt: &impl Print, asked: &str, reply: &[u8], millis: u32) -> io::Result<Post> {
+        self.told_by(rt, asked, SERVER, reply, millis)
+    }
+
+    // From another server. Source and reply stay two, as client's process has them.
+    pub fn told_by(
+        self,
+        rt: &impl Print,
+        asked: &str,
+        source: u32,
+        reply: &[u8],
+        millis: u32,
+    ) -> io::Result<Post> {
+        let told = self
+            .client
+            .process(self.tables, source, reply, Instant { millis });
+        let post = Post::after(told);
+        let came = match told.outcome {
+            Ok(true) => "taken, purge",
+            Ok(false) => "taken, no purge",
+            Err(NotTaken::PassedOver(_)) => "passed over",
+            Err(NotTaken::Refused(_)) => "refused",
+        };
+        println!(rt; "{asked}: {came} | {post}")?;
+        Ok(post)
+    }
+
+    pub fn reset(self, rt: &impl Print, asked: &str) -> io::Result<Post> {
+        let done = self.client.reset(self.tables);
+        let post = Post::after(done);
+        let came = match done.outcome {
+            Ok(true) => "done, purge",
+            Ok(false) => "done, no purge",
+            Err(_) => "refused",
+        };
+        println!(rt; "{asked}: {came} | {post}")?;
+        Ok(post)
     }
 }
 
-pub fn was_reset(rt: &impl Print, asked: &[u8], before: Post) -> io::Result<Post> {
-    let client = client(before);
-    let done = client.reset(before.tables);
-    let outcome = done.outcome;
-    let after = post_of(done.client, done.tables);
-    print(rt, asked)?;
-    print_reset(rt, outcome)?;
-    show(rt, after)?;
-    Ok(after)
-}
-
-fn print_reset(rt: &impl Print, outcome: ResetOutcome) -> io::Result<()> {
-    match outcome {
-        ResetOutcome::Done { purge } => {
-            print(rt, b": done")?;
-            print_purge(rt, purge)
+impl fmt::Display for Post {
+    fn fmt<W: fmt::Write>(&self, f: &mut fmt::Formatter<W>) -> fmt::Result {
+        let client = self.client;
+        let tables = self.tables;
+        let state = Shown(client.session.state);
+        let id = client.session.transaction_id;
+        let lease = Shown(client.lease);
+        let stored = client.lease.options.len;
+        let generation = tables.config_generation;
+        write!(
+            f,
+            "{state}, id {id} | {lease} stored {stored} | {generation} |"
+        )?;
+        // The look-up by place is what is shown; on tables that are not whole it is refused, as the call before it was.
+        for place in 0..4 {
+            if let Ok(Some(entry)) = tables.addr_at(place) {
+                write!(f, " {}", Shown(entry))?;
+            }
         }
-        ResetOutcome::Refused(_) => print(rt, b": refused |"),
+        f.write_str(" |")?;
+        match tables.default_ipv4_route() {
+            Ok(Some(route)) => write!(f, " {}", Shown(route)),
+            _ => Ok(()),
+        }
     }
 }

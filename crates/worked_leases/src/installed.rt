@@ -1,7 +1,7 @@
 // What leases do to tables in which other entries stand.
-use crate::calls::{told, was_reset};
-use crate::made::{SERVER, ack, awaiting, but, client, held};
-use clock::Instant;
+use crate::calls::Post;
+use crate::start::{ack, awaiting, held, holding};
+use made::with;
 use std::io;
 use tables::Tables;
 
@@ -11,72 +11,65 @@ pub fn examples(rt: &impl Print) -> io::Result<()> {
     stale(rt)
 }
 
+// With a DNS server.
+fn ack_with_dns() -> [u8; 600] {
+    ack(&[6, 4, 1, 1, 1, 1])
+}
+
+// A reply whose your-address is 10.0.0.51.
+fn of_51(reply: [u8; 600]) -> [u8; 600] {
+    with(reply, 16, &[10, 0, 0, 51])
+}
+
 // An unchanged entry keeps its place; another address comes behind those put in by hand.
 fn order(rt: &impl Print) -> io::Result<()> {
-    let mut post = held();
-    let tables = post.tables.add_address(0x0a000007, 24).tables;
-    post.tables = tables;
-    let same = told(
-        rt,
-        b"10.0.0.7/24 by hand, ACK with DNS",
-        post,
-        ack(&[6, 4, 1, 1, 1, 1]),
-        0,
-    )?;
-    told(
-        rt,
-        b"ACK of 10.0.0.51",
-        same,
-        but(ack(&[6, 4, 1, 1, 1, 1]), 16, &[10, 0, 0, 51]),
-        0,
-    )?;
+    let post = held();
+    let by_hand = Post {
+        tables: post.tables.add_address(0x0a000007, 24).tables,
+        ..post
+    };
+    by_hand
+        .told(rt, "10.0.0.7/24 by hand, ACK with DNS", &ack_with_dns(), 0)?
+        .told(rt, "ACK of 10.0.0.51", &of_51(ack_with_dns()), 0)?;
     Ok(())
 }
 
-// 10.0.0.1/24 to 10.0.0.3/24.
-fn three_addresses() -> Tables {
-    let one = Tables::new().add_address(0x0a000001, 24).tables;
-    let two = one.add_address(0x0a000002, 24).tables;
-    two.add_address(0x0a000003, 24).tables
+// 10.0.0.1/24 and on, so many.
+fn addresses(count: u32) -> Tables {
+    let mut tables = Tables::new();
+    for n in 0..count {
+        tables = tables.add_address(0x0a000001u32.wrapping_add(n), 24).tables;
+    }
+    tables
 }
 
 // "A full table loses the address or route, and the lease stands"; what is lost stays so until its value changes.
 fn lost_address(rt: &impl Print) -> io::Result<()> {
-    let mut room = three_addresses();
-    let full = room.add_address(0x0a000004, 24).tables;
-    let mut post = told(rt, b"4 addresses by hand, ACK", awaiting(full), ack(&[]), 0)?;
-    room.config_generation = 1;
-    post.tables = room;
-    let same = told(rt, b"10.0.0.4/24 gone, equal ACK", post, ack(&[]), 0)?;
-    let lost = told(rt, b"ACK with DNS", same, ack(&[6, 4, 1, 1, 1, 1]), 0)?;
-    told(
-        rt,
-        b"ACK of 10.0.0.51",
-        lost,
-        but(ack(&[]), 16, &[10, 0, 0, 51]),
-        0,
-    )?;
+    let full = awaiting(addresses(4)).told(rt, "4 addresses by hand, ACK", &ack(&[]), 0)?;
+    let room = Tables {
+        config_generation: 1,
+        ..addresses(3)
+    };
+    Post {
+        tables: room,
+        ..full
+    }
+    .told(rt, "10.0.0.4/24 gone, equal ACK", &ack(&[]), 0)?
+    .told(rt, "ACK with DNS", &ack_with_dns(), 0)?
+    .told(rt, "ACK of 10.0.0.51", &of_51(ack(&[])), 0)?;
     Ok(())
 }
 
 // Entries of DHCP's, 10.0.0.51/24 and the route by 10.0.0.3, of a client that holds no lease.
-fn stale_tables() -> Tables {
-    let reply = but(ack(&[3, 4, 10, 0, 0, 3]), 16, &[10, 0, 0, 51]);
-    let client = client(awaiting(Tables::new()));
-    client
-        .process(Tables::new(), SERVER, &reply, Instant::ZERO)
-        .tables
-}
-
 fn stale(rt: &impl Print) -> io::Result<()> {
-    let post = awaiting(stale_tables());
-    was_reset(rt, b"entries without a lease, reset", post)?;
-    told(rt, b"entries without a lease, ACK", post, ack(&[]), 0)?;
-    told(
+    let other = holding(of_51(ack(&[3, 4, 10, 0, 0, 3])));
+    let post = awaiting(other.tables);
+    post.reset(rt, "entries without a lease, reset")?;
+    post.told(rt, "entries without a lease, ACK", &ack(&[]), 0)?;
+    post.told(
         rt,
-        b"entries without a lease, ACK with router",
-        post,
-        ack(&[3, 4, 10, 0, 0, 1]),
+        "entries without a lease, ACK with router",
+        &ack(&[3, 4, 10, 0, 0, 1]),
         0,
     )?;
     Ok(())

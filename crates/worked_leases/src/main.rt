@@ -8,10 +8,9 @@ use std::io;
 mod calls;
 mod endings;
 mod installed;
-mod made;
 mod offers;
-mod print;
 mod renewals;
+mod start;
 
 fn main(rt: HostRuntime) -> io::Result<()> {
     offers::examples(&rt)?;

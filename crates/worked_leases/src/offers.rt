@@ -1,6 +1,8 @@
 // An OFFER, the ACK that follows it, and whose lease it is.
-use crate::calls::{told, told_by};
-use crate::made::{ack, awaiting, but, discovering, left, typed};
+use crate::start::{ack, awaiting, left, typed};
+use machine::ClientState;
+use made::{DISCOVERING, with};
+use octets::codes::OFFER;
 use std::io;
 use tables::Tables;
 
@@ -14,27 +16,22 @@ pub fn examples(rt: &impl Print) -> io::Result<()> {
 
 // "then Requesting, due now". The lease that was left is not touched.
 fn offers(rt: &impl Print) -> io::Result<()> {
-    told(
-        rt,
-        b"OFFER at 5,000",
-        left(discovering()),
-        typed(2, &[]),
-        5000,
-    )?;
+    let post = left(ClientState::Discovering(DISCOVERING));
+    post.told(rt, "OFFER at 5,000", &typed(OFFER, &[]), 5000)?;
     Ok(())
 }
 
 // "The server identifier must be present, and is not compared"; the server stays the OFFER's. At 245 stands the identifier.
 fn servers(rt: &impl Print) -> io::Result<()> {
-    let other = but(ack(&[]), 245, &[10, 0, 0, 88]);
-    let post = told_by(
-        rt,
-        b"ACK from 10.0.0.77 with identifier 10.0.0.88",
-        awaiting(Tables::new()),
-        OTHER,
-        &other,
-        0,
-    )?;
-    told(rt, b"then ACK with identifier 10.0.0.1", post, ack(&[]), 0)?;
+    let other = with(ack(&[]), 245, &[10, 0, 0, 88]);
+    awaiting(Tables::new())
+        .told_by(
+            rt,
+            "ACK from 10.0.0.77 with identifier 10.0.0.88",
+            OTHER,
+            &other,
+            0,
+        )?
+        .told(rt, "then ACK with identifier 10.0.0.1", &ack(&[]), 0)?;
     Ok(())
 }

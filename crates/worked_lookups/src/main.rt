@@ -7,8 +7,7 @@ use std::io;
 
 mod generator;
 mod lookups;
-mod made;
-mod print;
+mod start;
 mod unused;
 
 fn main(rt: HostRuntime) -> io::Result<()> {

@@ -6,57 +6,32 @@
 
 #![tactic(auto)]
 
-mod calls;
-mod made;
-mod numbers;
-mod post;
-mod print;
+mod call;
+mod line;
+mod standing;
 
-use numbers::{first, numbers_in};
-use octets::span::up_to;
-use post::Post;
-use print::{print, show};
+use call::Call;
+use made::filled;
+use standing::Standing;
 use std::io;
-use std::io::Read;
 
 fn main(rt: HostRuntime) -> io::Result<()> {
     let mut text = [0u8; 65536];
-    let n = filled(&rt, &mut text)?;
-    run(&rt, up_to(&text, n))
-}
-
-// Reads until the input ends or there is no room; how many octets.
-fn filled(rt: &impl Input, text: &mut [u8]) -> io::Result<usize> {
-    let mut have = 0;
-    while have < text.len() {
-        let n = rt.reader().read(&mut text[have..])?;
-        if n == 0 {
-            return Ok(have);
-        }
-        have += n;
-    }
-    Ok(have)
+    run(&rt, filled(&rt, &mut text)?)
 }
 
 // Before the first line there is a post without a client: MTU 0 is refused.
 fn run(rt: &impl Print, text: &[u8]) -> io::Result<()> {
-    let mut post = calls::new([0; 10]);
-    let mut at = 0;
-    while at < text.len() {
-        post = line(rt, post, trace::line_at(text, at))?;
-        at = trace::after_line(text, at);
+    let mut standing = Standing::new(0, 0, call::settings([0; 10]));
+    // Not split alone: it has one line more, an empty one behind the last line's end.
+    for line in text.split_inclusive(|c| *c == b'\n') {
+        let words = line.strip_suffix(b"\n").unwrap_or(line);
+        rt.write_all(words)?;
+        if let Some(call) = Call::of(words) {
+            standing = standing.after(rt, call)?;
+            print!(rt; "{standing}")?;
+        }
+        println!(rt)?;
     }
     Ok(())
-}
-
-fn line(rt: &impl Print, post: Post, words: &[u8]) -> io::Result<Post> {
-    let key = first(words);
-    print(rt, words)?;
-    if key == b'#' {
-        print(rt, b"\n")?;
-        return Ok(post);
-    }
-    let after = calls::called(rt, post, key, numbers_in(words))?;
-    show(rt, after)?;
-    Ok(after)
 }

@@ -4,10 +4,9 @@
 
 use std::io;
 
-mod made;
+mod clients;
 mod passed_over;
-mod print;
-mod same;
+mod taken;
 
 fn main(rt: HostRuntime) -> io::Result<()> {
     passed_over::examples(&rt)

@@ -9,21 +9,19 @@
 #![tactic(auto)]
 
 mod digest;
-mod made;
-mod print;
 mod season;
 mod server;
+mod shown;
 mod tally;
 
-use made::{Post, created};
+use clock::Rand;
+use made::{SEED, pitch_17};
+use post::Post;
 use std::io;
-use tables::Outcome;
 
 fn main(rt: HostRuntime) -> io::Result<()> {
-    let created = created();
-    let outcome = created.outcome;
-    match outcome {
-        Outcome::Done => season::run(&rt, Post::new(created.client)),
-        Outcome::Refused(_) => rt.write_all(b"no post was created\n"),
+    match Post::new(pitch_17(), Rand::new(SEED)) {
+        Ok(post) => season::run(&rt, post),
+        Err(_) => println!(&rt; "no post was created"),
     }
 }

@@ -1,128 +1,111 @@
 // What is counted, over a month and over the season.
-use crate::server::{ACK, DISCOVER, OFFER, REQUEST};
+use crate::server::{Sent, Told};
 use client::PollAnswer;
+use octets::address::BROADCAST;
+use std::fmt;
 
-#[derive(Clone, Copy)]
-pub struct Tally {
-    pub month: [u32; 11],
-    pub whole: [u32; 11],
+#[derive(Clone, Copy, Default)]
+pub struct Counts {
+    polls: u32,
+    silent: u32,
+    discovers: u32,
+    requests: u32,
+    renewals: u32,
+    broadcasts: u32,
+    offers: u32,
+    acks: u32,
+    naks: u32,
+    expired: u32,
+    wraps: u32,
 }
 
-// Places, in the order in which a line has them.
-const POLLS: usize = 0;
-
-const SILENT: usize = 1;
-
-const DISCOVERS: usize = 2;
-
-const REQUESTS: usize = 3;
-
-const RENEWALS: usize = 4;
-
-const BROADCASTS: usize = 5;
-
-const OFFERS: usize = 6;
-
-const ACKS: usize = 7;
-
-const NAKS: usize = 8;
-
-const EXPIRED: usize = 9;
-
-const WRAPS: usize = 10;
-
-// No place.
-const NONE: usize = 11;
-
-const BROADCAST: u32 = 0xffffffff;
+#[derive(Clone, Copy, Default)]
+pub struct Tally {
+    pub month: Counts,
+    pub whole: Counts,
+}
 
 impl Tally {
-    pub fn new() -> Tally {
-        Tally {
-            month: [0; 11],
-            whole: [0; 11],
-        }
-    }
-
     // A month begins.
     pub fn next_month(self) -> Tally {
-        let whole = self.whole;
         Tally {
-            month: [0; 11],
-            whole,
+            month: Counts::default(),
+            ..self
         }
     }
 
-    // A poll that sent a message of this type, or none.
-    pub fn polled(self, answer: PollAnswer, kind: u32) -> Tally {
-        self.with(POLLS)
-            .with(sent(answer, kind))
-            .with_if(answer.purge, EXPIRED)
-    }
-
-    // A reply of this type was taken.
-    pub fn taken(self, kind: u32) -> Tally {
-        if kind == OFFER {
-            return self.with(OFFERS);
+    // What happened counts in both.
+    pub fn with<F: Fn(Counts) -> Counts>(self, counted: F) -> Tally
+        requires { F.IsAlwaysCallable counted }
+    {
+        Tally {
+            month: counted(self.month),
+            whole: counted(self.whole),
         }
-        if kind == ACK {
-            return self.with(ACKS);
+    }
+}
+
+impl Counts {
+    // A poll that sent a message, or none.
+    pub fn polled(mut self, answer: PollAnswer, sent: Option<Sent>) -> Counts {
+        self.polls = self.polls.saturating_add(1);
+        if answer.purge {
+            self.expired = self.expired.saturating_add(1);
         }
-        self.with(NAKS)
-    }
-
-    // A call at a moment whose step leads on to another.
-    pub fn stepped(self, before: u32, after: u32) -> Tally {
-        self.with_if(after < before, WRAPS)
-    }
-
-    fn with_if(self, so: bool, what: usize) -> Tally {
-        if so {
-            return self.with(what);
+        match sent {
+            None if answer.length == 0 => self.silent = self.silent.saturating_add(1),
+            None => {}
+            Some(Sent::Discover) => self.discovers = self.discovers.saturating_add(1),
+            Some(Sent::Request) if answer.source == 0 => self.requests = self
+                .requests
+                .saturating_add(1),
+            Some(Sent::Request) if answer.destination == BROADCAST => {
+                self.broadcasts = self.broadcasts.saturating_add(1)
+            }
+            Some(Sent::Request) => self.renewals = self.renewals.saturating_add(1),
         }
         self
     }
 
-    fn with(self, what: usize) -> Tally {
-        let mut month = self.month;
-        let mut whole = self.whole;
-        if NONE <= what {
-            return self;
+    // A reply was taken.
+    pub fn told(mut self, told: Told) -> Counts {
+        match told {
+            Told::Offer => self.offers = self.offers.saturating_add(1),
+            Told::Ack => self.acks = self.acks.saturating_add(1),
+            Told::Nak => self.naks = self.naks.saturating_add(1),
         }
-        month[what] = more(month[what]);
-        whole[what] = more(whole[what]);
-        Tally { month, whole }
+        self
+    }
+
+    // The clock came round.
+    pub fn wrapped(self) -> Counts {
+        Counts {
+            wraps: self.wraps.saturating_add(1),
+            ..self
+        }
     }
 }
 
-// Where a poll's message is counted.
-fn sent(answer: PollAnswer, kind: u32) -> usize {
-    if answer.length == 0 {
-        return SILENT;
+// In the order in which a line has them.
+impl fmt::Display for Counts {
+    fn fmt<W: fmt::Write>(&self, f: &mut fmt::Formatter<W>) -> fmt::Result {
+        write!(f, "{} polls, {} silent", self.polls, self.silent)?;
+        write!(
+            f,
+            " | {} Discovers, {} Requests",
+            self.discovers, self.requests
+        )?;
+        write!(f, ", {} renewals to the server", self.renewals)?;
+        write!(
+            f,
+            ", {} broadcast | {} OFFERs",
+            self.broadcasts, self.offers
+        )?;
+        write!(f, ", {} ACKs, {} NAKs", self.acks, self.naks)?;
+        write!(
+            f,
+            " | {} leases expired, {} wraps",
+            self.expired, self.wraps
+        )
     }
-    if kind == DISCOVER {
-        return DISCOVERS;
-    }
-    if kind == REQUEST {
-        return request(answer.source, answer.destination);
-    }
-    NONE
-}
-
-fn request(source: u32, destination: u32) -> usize {
-    if source == 0 {
-        return REQUESTS;
-    }
-    if destination == BROADCAST {
-        return BROADCASTS;
-    }
-    RENEWALS
-}
-
-// One more, or the largest number.
-pub fn more(n: u32) -> u32 {
-    if n < 4294967295 {
-        return n + 1;
-    }
-    n
 }

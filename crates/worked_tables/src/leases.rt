@@ -1,6 +1,7 @@
 // Leases that come, change and go.
-use crate::made::{POST, ROUTER, entry, four_addresses, four_routes, lease, no_lease, plain};
 use crate::print::{by_hand, by_lease};
+use crate::start::{PLAIN, POST, ROUTER, four_addresses, four_routes, installed};
+use lease::nothing;
 use std::io;
 use tables::{Installed, Tables};
 
@@ -11,114 +12,111 @@ pub fn examples(rt: &impl Print) -> io::Result<()> {
     stale(rt)
 }
 
-// The generation counts each run, and purging follows address and prefix.
-fn generations(rt: &impl Print) -> io::Result<()> {
-    let t1 = by_lease(
-        rt,
-        b"first ACK",
-        Tables::new().dhcpv4_apply(plain(), no_lease()),
-    )?;
-    let t2 = by_lease(
-        rt,
-        b"stored options alone",
-        t1.dhcpv4_apply(plain(), plain()),
-    )?;
-    let routed = lease(POST, 24, ROUTER);
-    let t3 = by_lease(rt, b"a router", t2.dhcpv4_apply(routed, plain()))?;
-    more_generations(rt, t3, routed)
+// Leases one after another, the first in the place of the one that is held; what is left after them.
+fn in_turn(
+    rt: &impl Print,
+    mut tables: Tables,
+    mut held: Installed,
+    leases: &[(&str, Installed)],
+) -> io::Result<Tables> {
+    for (asked, lease) in leases {
+        tables = by_lease(rt, asked, tables.dhcpv4_apply(*lease, held))?;
+        held = *lease;
+    }
+    Ok(tables)
 }
 
-fn more_generations(rt: &impl Print, t: Tables, routed: Installed) -> io::Result<()> {
-    let shorter = lease(POST, 16, ROUTER);
-    let t4 = by_lease(rt, b"another prefix", t.dhcpv4_apply(shorter, routed))?;
-    let other = lease(POST + 1, 16, ROUTER + 1);
-    let t5 = by_lease(
-        rt,
-        b"another address and router",
-        t4.dhcpv4_apply(other, shorter),
-    )?;
-    let mut last = by_lease(rt, b"no lease", t5.dhcpv4_apply(no_lease(), other))?;
-    last.config_generation = 4294967295;
-    by_lease(
-        rt,
-        b"after 4,294,967,295 changes",
-        last.dhcpv4_apply(plain(), no_lease()),
-    )?;
+// Each lease alone, in the place of the one that is held.
+fn each(
+    rt: &impl Print,
+    tables: Tables,
+    held: Installed,
+    leases: &[(&str, Installed)],
+) -> io::Result<()> {
+    for lease in leases {
+        in_turn(rt, tables, held, &[*lease])?;
+    }
     Ok(())
+}
+
+// The generation counts each run, and purging follows address and prefix.
+fn generations(rt: &impl Print) -> io::Result<()> {
+    let leases = [
+        ("first ACK", PLAIN),
+        ("stored options alone", PLAIN),
+        ("a router", installed(POST, 24, ROUTER)),
+        ("another prefix", installed(POST, 16, ROUTER)),
+        (
+            "another address and router",
+            installed(POST + 1, 16, ROUTER + 1),
+        ),
+        ("no lease", nothing()),
+    ];
+    let mut last = in_turn(rt, Tables::new(), nothing(), &leases)?;
+    last.config_generation = 4294967295;
+    each(
+        rt,
+        last,
+        nothing(),
+        &[("after 4,294,967,295 changes", PLAIN)],
+    )
 }
 
 // "an ACK with another address gives [manual, DHCP]. An unchanged entry keeps its place."
 fn order(rt: &impl Print) -> io::Result<()> {
-    let leased = Tables::new().dhcpv4_apply(plain(), no_lease()).tables;
-    let t = by_hand(
+    let leased = Tables::new().dhcpv4_apply(PLAIN, nothing()).tables;
+    let both = by_hand(
         rt,
-        b"one by hand behind DHCP's",
+        "one by hand behind DHCP's",
         leased.add_address(ROUTER, 24),
     )?;
-    by_lease(
-        rt,
-        b"a router alone",
-        t.dhcpv4_apply(lease(POST, 24, ROUTER), plain()),
-    )?;
-    by_lease(
-        rt,
-        b"another address",
-        t.dhcpv4_apply(lease(POST + 1, 24, ROUTER), plain()),
-    )?;
-    Ok(())
+    let leases = [
+        ("a router alone", installed(POST, 24, ROUTER)),
+        ("another address", installed(POST + 1, 24, ROUTER)),
+    ];
+    each(rt, both, PLAIN, &leases)
 }
 
 // "A full table loses the address or route, and the lease stands"; what is lost stays lost until its value changes.
 fn lost(rt: &impl Print) -> io::Result<()> {
-    let t = by_lease(
+    let full = in_turn(
         rt,
-        b"four by hand, ACK",
-        four_addresses().dhcpv4_apply(plain(), no_lease()),
+        four_addresses(),
+        nothing(),
+        &[("four by hand, ACK", PLAIN)],
     )?;
-    let room = by_hand(rt, b"10.0.0.4/24 dropped", t.drop_address(0x0a000004, 24))?;
-    let dns = by_lease(
+    let room = by_hand(rt, "10.0.0.4/24 dropped", full.drop_address(0x0a000004, 24))?;
+    let held = installed(POST, 24, ROUTER);
+    let still = in_turn(
         rt,
-        b"ACK with DNS added",
-        room.dhcpv4_apply(plain(), plain()),
+        room,
+        PLAIN,
+        &[("ACK with DNS added", PLAIN), ("ACK with a router", held)],
     )?;
-    let routed = by_lease(
+    let leases = [
+        ("no lease", nothing()),
+        ("ACK with another address", installed(POST + 1, 24, ROUTER)),
+    ];
+    each(rt, still, held, &leases)?;
+    each(
         rt,
-        b"ACK with a router",
-        dns.dhcpv4_apply(lease(POST, 24, ROUTER), plain()),
-    )?;
-    still_lost(rt, routed)
-}
-
-fn still_lost(rt: &impl Print, t: Tables) -> io::Result<()> {
-    let held = lease(POST, 24, ROUTER);
-    by_lease(rt, b"no lease", t.dhcpv4_apply(no_lease(), held))?;
-    by_lease(
-        rt,
-        b"ACK with another address",
-        t.dhcpv4_apply(lease(POST + 1, 24, ROUTER), held),
-    )?;
-    by_lease(
-        rt,
-        b"four routes by hand, ACK",
-        four_routes().dhcpv4_apply(held, no_lease()),
-    )?;
-    Ok(())
+        four_routes(),
+        nothing(),
+        &[("four routes by hand, ACK", held)],
+    )
 }
 
 // Entries of DHCP's without a lease: an address takes out stale ones, a route only if there is a router.
 fn stale(rt: &impl Print) -> io::Result<()> {
-    let t = Tables::new()
-        .dhcpv4_apply(lease(7, 8, 9), no_lease())
+    let stale = Tables::new()
+        .dhcpv4_apply(installed(7, 8, 9), nothing())
         .tables;
-    by_lease(
-        rt,
-        b"stale entries, ACK without router",
-        t.dhcpv4_apply(plain(), no_lease()),
-    )?;
-    by_lease(
-        rt,
-        b"stale entries, ACK with router",
-        t.dhcpv4_apply(lease(POST, 24, ROUTER), no_lease()),
-    )?;
-    Ok(())
+    let leases = [
+        ("stale entries, ACK without router", PLAIN),
+        (
+            "stale entries, ACK with router",
+            installed(POST, 24, ROUTER),
+        ),
+    ];
+    each(rt, stale, nothing(), &leases)
 }

@@ -2,16 +2,16 @@
 
 #![tactic(auto)]
 
-use crate::made::{
-    POST, ROUTER, entry, four_addresses, four_routes, lease, no_lease, with_addresses,
-};
-use crate::print::{by_hand, counted, has, print, print_addr, print_route, test};
+use crate::print::{Found, by_hand};
+use crate::start::{POST, ROUTER, entry, four_addresses, four_routes, installed, with_addresses};
+use lease::nothing;
+use made::{YesNo, answered, test};
 use std::io;
 use tables::Tables;
 
 mod leases;
-mod made;
 mod print;
+mod start;
 
 fn main(rt: HostRuntime) -> io::Result<()> {
     refused_routes(&rt)?;
@@ -25,25 +25,25 @@ fn main(rt: HostRuntime) -> io::Result<()> {
     looked_up(&rt)
 }
 
-// "11 table full: fifth route"; "10 precedes 11"; 9 is tested first.
+// "11 table full: fifth route"; "10 precedes 11"; NotWhole (9) is tested first.
 fn refused_routes(rt: &impl Print) -> io::Result<()> {
     let t = four_routes();
-    by_hand(rt, b"fifth route", t.add_route(0, 0, ROUTER))?;
+    by_hand(rt, "fifth route", t.add_route(0, 0, ROUTER))?;
     by_hand(
         rt,
-        b"fifth route, by 224.0.0.1",
+        "fifth route, by 224.0.0.1",
         t.add_route(0, 0, 0xe0000001),
     )?;
-    by_hand(rt, b"the same of prefix 33", t.add_route(0, 33, 0xe0000001))?;
+    by_hand(rt, "the same of prefix 33", t.add_route(0, 33, 0xe0000001))?;
     Ok(())
 }
 
 // "also a manual prefix over 32", of drops too.
 fn refused_addresses(rt: &impl Print) -> io::Result<()> {
     let t = four_addresses();
-    by_hand(rt, b"fifth address", t.add_address(POST, 24))?;
-    by_hand(rt, b"the same of prefix 33", t.add_address(POST, 33))?;
-    by_hand(rt, b"10.0.0.1/33 dropped", t.drop_address(ROUTER, 33))?;
+    by_hand(rt, "fifth address", t.add_address(POST, 24))?;
+    by_hand(rt, "the same of prefix 33", t.add_address(POST, 33))?;
+    by_hand(rt, "10.0.0.1/33 dropped", t.drop_address(ROUTER, 33))?;
     Ok(())
 }
 
@@ -51,18 +51,18 @@ fn refused_addresses(rt: &impl Print) -> io::Result<()> {
 fn five_addresses(rt: &impl Print) -> io::Result<()> {
     let one = entry(POST, 24, false);
     let t = with_addresses([one; 4], 5);
-    by_hand(rt, b"5 addresses, and another", t.add_address(POST, 24))?;
+    by_hand(rt, "5 addresses, and another", t.add_address(POST, 24))?;
     by_hand(
         rt,
-        b"5 addresses, a route dropped",
+        "5 addresses, a route dropped",
         t.drop_route(0, 0, ROUTER),
     )?;
-    test(rt, b"5 addresses are whole", t.is_whole())?;
-    counted(rt, b"5 addresses, how many routes", t.route_count())?;
-    has(
+    test(rt, "5 addresses are whole", t.is_whole())?;
+    answered(rt, "5 addresses, how many routes", t.route_count())?;
+    answered(
         rt,
-        b"5 addresses, 10.0.0.50 among them",
-        t.has_ip_addr(POST),
+        "5 addresses, 10.0.0.50 among them",
+        t.has_ip_addr(POST).map(YesNo),
     )
 }
 
@@ -77,35 +77,39 @@ fn long_prefixes(count: usize) -> Tables {
 
 // A prefix over 32 counts where it is in use.
 fn prefixes(rt: &impl Print) -> io::Result<()> {
-    let two = long_prefixes(2);
-    by_hand(rt, b"prefix 33 in use", two.add_address(POST, 24))?;
-    let one = long_prefixes(1);
-    by_hand(rt, b"prefix 33 not in use", one.add_address(POST, 16))?;
+    by_hand(
+        rt,
+        "prefix 33 in use",
+        long_prefixes(2).add_address(POST, 24),
+    )?;
+    by_hand(
+        rt,
+        "prefix 33 not in use",
+        long_prefixes(1).add_address(POST, 16),
+    )?;
     Ok(())
 }
 
 // What a written table holds where it is not in use: zeros, whatever was there.
 fn unused(rt: &impl Print) -> io::Result<()> {
-    let t = long_prefixes(1);
-    let changed = t.drop_address(POST, 24);
-    let table = changed.tables.ip_addrs;
-    let rest = table.entries;
+    let changed = long_prefixes(1).drop_address(POST, 24);
+    let rest = changed.tables.ip_addrs.entries;
     test(
         rt,
-        b"after a drop of the only one, the fourth address is 0",
+        "after a drop of the only one, the fourth address is 0",
         rest[3].address == 0,
     )?;
-    test(rt, b"its prefix is 0", rest[3].prefix == 0)?;
-    test(rt, b"the third is DHCP's", rest[2].dhcp)
+    test(rt, "its prefix is 0", rest[3].prefix == 0)?;
+    test(rt, "the third is DHCP's", rest[2].dhcp)
 }
 
 // "drop manual ones (all with that address and prefix ...; none there is no refusal)"; DHCP's entry stays.
 fn drops(rt: &impl Print) -> io::Result<()> {
     let one = entry(POST, 24, false);
     let t = with_addresses([one, entry(POST, 24, true), entry(POST, 16, false), one], 4);
-    let left = by_hand(rt, b"10.0.0.50/24 dropped", t.drop_address(POST, 24))?;
-    let same = by_hand(rt, b"and once more", left.drop_address(POST, 24))?;
-    by_hand(rt, b"10.0.0.50/24 added", same.add_address(POST, 24))?;
+    let left = by_hand(rt, "10.0.0.50/24 dropped", t.drop_address(POST, 24))?;
+    let same = by_hand(rt, "and once more", left.drop_address(POST, 24))?;
+    by_hand(rt, "10.0.0.50/24 added", same.add_address(POST, 24))?;
     Ok(())
 }
 
@@ -113,23 +117,23 @@ fn drops(rt: &impl Print) -> io::Result<()> {
 fn unmasked(rt: &impl Print) -> io::Result<()> {
     let t = by_hand(
         rt,
-        b"10.1.2.3/8 added",
+        "10.1.2.3/8 added",
         Tables::new().add_address(0x0a010203, 8),
     )?;
-    by_hand(rt, b"10.0.0.0/8 dropped", t.drop_address(0x0a000000, 8))?;
+    by_hand(rt, "10.0.0.0/8 dropped", t.drop_address(0x0a000000, 8))?;
     let r = by_hand(
         rt,
-        b"10.1.2.3/8 by 10.0.0.1 added",
+        "10.1.2.3/8 by 10.0.0.1 added",
         Tables::new().add_route(0x0a010203, 8, ROUTER),
     )?;
     by_hand(
         rt,
-        b"10.1.2.3/8 by 10.0.0.2 dropped",
+        "10.1.2.3/8 by 10.0.0.2 dropped",
         r.drop_route(0x0a010203, 8, ROUTER + 1),
     )?;
     by_hand(
         rt,
-        b"10.1.2.3/8 by 10.0.0.1 dropped",
+        "10.1.2.3/8 by 10.0.0.1 dropped",
         r.drop_route(0x0a010203, 8, ROUTER),
     )?;
     Ok(())
@@ -140,20 +144,23 @@ fn looked_up(rt: &impl Print) -> io::Result<()> {
     let t = four_addresses()
         .add_route(0, 0, 9)
         .tables
-        .dhcpv4_apply(lease(POST, 24, ROUTER), no_lease())
+        .dhcpv4_apply(installed(POST, 24, ROUTER), nothing())
         .tables;
-    counted(rt, b"how many addresses", t.addr_count())?;
-    has(rt, b"10.0.0.4 is there", t.has_ip_addr(0x0a000004))?;
-    has(rt, b"10.0.0.50 is there", t.has_ip_addr(POST))?;
-    print(rt, b"the fourth and the fifth:")?;
-    print_addr(rt, t.addr_at(3))?;
-    print_addr(rt, t.addr_at(4))?;
-    defaults(rt, t)
-}
-
-fn defaults(rt: &impl Print, t: Tables) -> io::Result<()> {
-    print(rt, b"\nthe default routes, first ours:")?;
-    print_route(rt, t.default_ipv4_route())?;
-    print_route(rt, Tables::new().default_ipv4_route())?;
-    print(rt, b"\n")
+    answered(rt, "how many addresses", t.addr_count())?;
+    answered(
+        rt,
+        "10.0.0.4 is there",
+        t.has_ip_addr(0x0a000004).map(YesNo),
+    )?;
+    answered(rt, "10.0.0.50 is there", t.has_ip_addr(POST).map(YesNo))?;
+    println!(rt;
+        "the fourth and the fifth:{}{}",
+        Found(t.addr_at(3)),
+        Found(t.addr_at(4))
+    )?;
+    println!(rt;
+        "the default routes, first ours:{}{}",
+        Found(t.default_ipv4_route()),
+        Found(Tables::new().default_ipv4_route())
+    )
 }

@@ -1,44 +1,36 @@
-use mathlib.Core.Path.{◌≡◌, sym, ap, ◌∙◌}
-use Prim.Native.Nat.{◌+◌}
-use native.Mathlib.Omega.{arith}
-use lib.ListN.{length}
-use Rattle.message.specs.Messages.{message}
-use Rattle.message.specs.declared.message.Answer.TheVariants.{Length}
-use Rattle.message.proofs.Answers.{short, fits, over_room, refused, leaves_datagram, leaves_all}
+use Rattle.std.proofs.Common.{◌≡◌, ◌+◌, sym, ap, ◌∙◌, arith, rules, length, Ok}
+use Rattle.std.specs.Prelude.{option_copied}
+use Rattle.octets.specs.Runs.{over}
+use Rattle.message.specs.Datagrams.{datagram}
+use Rattle.message.specs.Pieces.{message_with}
+use Rattle.message.specs.Written.{measured}
+use Rattle.message.specs.declared.lists.Lists.{Lists}
+use Rattle.message.proofs.Answers.{fits, over_room, refused, leaves_datagram, leaves_all}
 use Rattle.message.proofs.Datagrams.{datagram_length}
-use Rattle.message.proofs.Messages.{message_most}
-use Rattle.message.proofs.datagram.write_message.Goals.{Start}
-use Rattle.std.proofs.Common.{rules}
+use Rattle.message.proofs.datagram.write_message.Goals.{After-total-n}
 use Rattle.message.proofs.datagram.write_message.Goals as goal
 
-size : (c : Start) → length c.args.m.hardware ≡ 6
-size c = search rules
+size : (c : After-total-n) → measured c.args.m c.args.lists.name.now (option_copied c.args.lists.list) c.args.lists.extra.now ≡ Ok c.total-n.result
+size c = let m = c.args.m in
+    c.in_ok-short.ensures.measured m ∙ ap Ok (sym (c.total-n.ensures.value ∙ ap (λ (lists : Lists). length (message_with m lists)) c.in_ok-short.ensures.lists))
 
-pub overflow_add-n : goal.overflow_add-n
-overflow_add-n c = let a = c.args in
-    let s = short a.m a.name.now a.list.now a.extra.now (sym c.in-Length.ensures) in
-    omega (arith, message_most a.m a.name.now a.list.now a.extra.now (size (goal.at.overflow_add-n c).Start) s.0, s.1)
+pub returns-in_err-short : goal.returns-in_err-short
+returns-in_err-short c = let a = c.args in
+    let l = a.lists in
+    let e = refused a.m l.name.now (option_copied l.list) l.extra.now (length a.buf.now) (c.in_err-short.ensures.measured a.m) in
+    (search (rules, e), sym (leaves_all a.m l.name.now (option_copied l.list) l.extra.now a.ends a.offload a.buf.now e))
 
 pub returns-then-buf-n : goal.returns-then-buf-n
 returns-then-buf-n c = let a = c.args in
-    let e = over_room a.m a.name.now a.list.now a.extra.now (sym c.in-Length.ensures) c.if-buf-n.true in
-    (sym e, sym (leaves_all a.m a.name.now a.list.now a.extra.now a.ends a.offload a.buf.now e))
+    let l = a.lists in
+    let e = over_room a.m l.name.now (option_copied l.list) l.extra.now (size (goal.at.returns-then-buf-n c).After-total-n) c.if-buf-n.true in
+    (sym e, sym (leaves_all a.m l.name.now (option_copied l.list) l.extra.now a.ends a.offload a.buf.now e))
 
-pub put_datagram-requires : goal.put_datagram-requires
-put_datagram-requires c = let a = c.args in
-    let s = short a.m a.name.now a.list.now a.extra.now (sym c.in-Length.ensures) in
-    record { short = s.0; size = (s.1, omega arith) }
-
-pub returns-else-buf-n : goal.returns-else-buf-n
-returns-else-buf-n c = let a = c.args in
-    let body = message a.m a.name.now a.list.now a.extra.now in
-    let l = sym c.in-Length.ensures in
-    let s = short a.m a.name.now a.list.now a.extra.now l in
-    let e = fits a.m a.name.now a.list.now a.extra.now l c.if-buf-n.false in
-    let r : c.put_datagram.result ≡ 8 + c.in-Length.n = omega (arith, datagram_length a.ends a.offload body, s.1) in
-    (ap Length r ∙ sym e, c.put_datagram.ensures.bytes ∙ sym (leaves_datagram a.m a.name.now a.list.now a.extra.now a.ends a.offload a.buf.now e))
-
-pub returns-in-Refused : goal.returns-in-Refused
-returns-in-Refused c = let a = c.args in
-    let e = refused a.m a.name.now a.list.now a.extra.now (length a.buf.now) (sym c.in-Refused.ensures) in
-    (sym e, sym (leaves_all a.m a.name.now a.list.now a.extra.now a.ends a.offload a.buf.now e))
+pub returns : goal.returns
+returns c = let a = c.args in
+    let l = a.lists in
+    let short = c.in_ok-short.short.lists in
+    let e = fits a.m l.name.now (option_copied l.list) l.extra.now (size (goal.at.returns c).After-total-n) c.if-buf-n.false in
+    let r : c.put_datagram.result ≡ 8 + c.total-n.result = omega (arith, datagram_length a.ends a.offload (message_with a.m short)) in
+    let b : c.put_datagram.new.buf ≡ over (datagram a.ends a.offload (message_with a.m short)) a.buf.now = c.put_datagram.ensures.bytes in
+    (ap Ok r ∙ sym e, b ∙ ap (λ (x : Lists). over (datagram a.ends a.offload (message_with a.m x)) a.buf.now) c.in_ok-short.ensures.lists ∙ sym (leaves_datagram a.m l.name.now (option_copied l.list) l.extra.now a.ends a.offload a.buf.now e))

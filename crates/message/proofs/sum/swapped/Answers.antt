@@ -1,6 +1,10 @@
+use Rattle.std.proofs.Common.{◌≡◌, ◌+◌, ◌*◌, ◌/◌, ◌%◌, arith, ap, ◌∙◌}
+use Rattle.message.specs.Pieces.{carried_in}
 use Rattle.message.proofs.Sums.{in_swapped}
-use mathlib.Core.Path.{◌∙◌}
 use Rattle.message.proofs.sum.swapped.Goals as goal
 
 pub returns : goal.returns
-returns c = c.folded.ensures ∙ in_swapped c.args.start c.args.sum c.folded-low.result c.folded-low.ensures
+returns c =
+    let low = c.folded.result in
+    let e : c.from.result + c.from-2.result ≡ c.args.start + low % 256 * 256 + low / 256 = omega arith in
+    c.folded-2.ensures ∙ ap carried_in e ∙ in_swapped c.args.start c.args.sum low c.folded.ensures

@@ -3,8 +3,8 @@ use lib.ListN.{length}
 use Rattle.octets.specs.Items.{whole_items}
 use Rattle.octets.proofs.item.whole_items.Given as goal
 
-abbrev pub invariant-loop-t : goal.invariant-loop-t
-invariant-loop-t l = whole_items l.s ≡ whole_items l.t
+abbrev pub invariant-loop-left : goal.invariant-loop-left
+invariant-loop-left l = whole_items l.s ≡ whole_items l.left
 
-abbrev pub decreases-loop-t : goal.decreases-loop-t
-decreases-loop-t l = length l.t
+abbrev pub decreases-loop-left : goal.decreases-loop-left
+decreases-loop-left l = length l.left

@@ -1,4 +1,5 @@
+use Rattle.std.proofs.Common.{◌≤◌, length}
 use Rattle.replay.proofs.stream.run.Given as goal
 
-abbrev pub decreases-loop-left : goal.decreases-loop-left
-decreases-loop-left g l = l.left
+abbrev pub invariant-loop-turn : goal.invariant-loop-turn
+invariant-loop-turn g l = l.have ≤ length l.text

@@ -1,14 +1,17 @@
-use lib.Seq.{length-take-le}
-use mathlib.Core.Path.{sym}
-use Rattle.trace.proofs.Lines.{line_inside, line_past, line_there}
+use Rattle.std.proofs.Common.{take, sym, ap, ◌∙◌, arith}
+use Rattle.std.proofs.lemmas.List.{length-take-le}
+use Rattle.trace.specs.Lines.{line_length, line_at}
+use Rattle.trace.proofs.Lines.{line_inside, line_past, rest_range}
 use Rattle.trace.proofs.line.line_at.Goals as goal
 
-pub returns-then-text-at : goal.returns-then-text-at
-returns-then-text-at c = line_past c.args.at c.args.text.now c.if-text-at.true
+pub slice_bounds-result-end : goal.slice_bounds-result-end
+slice_bounds-result-end c = sym (length-take-le _ _ (omega (arith, line_inside c.in-Some.rest.now)))
 
-pub slice_bounds-result-end-2 : goal.slice_bounds-result-end-2
-slice_bounds-result-end-2 c = sym (length-take-le _ _ (line_inside _ _ c.line_len-n.ensures))
+pub returns-in-Some : goal.returns-in-Some
+unfolding line_at
+returns-in-Some c =
+    let rest = rest_range c.args.at c.args.text.now c.in-Some.rest.now c.in-Some.ensures.lookup.0.2 in
+    (λ k. take ((c.line_len.ensures ∙ ap line_length rest) k) (rest k))
 
-pub returns : goal.returns
-returns c = let a = c.args in
-    line_there a.at _ a.text.now c.line_len-n.ensures
+pub returns-in-None : goal.returns-in-None
+returns-in-None c = sym (line_past c.args.at c.args.text.now (omega (arith, c.in-None.ensures.lookup.0)))

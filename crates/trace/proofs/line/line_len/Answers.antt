@@ -1,17 +1,11 @@
-use native.Mathlib.Omega.{arith}
-use mathlib.Core.Path.{ap}
-use Rattle.octets.proofs.Runs.{part_tail}
+use Rattle.std.proofs.Common.{◌≡◌, ◌≢◌, rules, sym, ◌∙◌}
+use Rattle.std.proofs.lemmas.Iterator.{IsFirst-from_position, YieldsList-from_slice, index_from_first}
+use borrow.Author.Tests.{tests}
 use Rattle.trace.specs.Lines.{line_length}
-use Rattle.trace.proofs.Lines.{line_end_lem, line_more, line_none}
-use Rattle.std.proofs.Common.{rules}
+use Rattle.trace.proofs.Lines.{line_none, line_hit, line_miss}
 use Rattle.trace.proofs.line.line_len.Goals as goal
 
-pub returns-then-t-eq-LINE_END : goal.returns-then-t-eq-LINE_END
-returns-then-t-eq-LINE_END c = omega (arith, c.loop-t.invariant.1, line_end_lem c.loop-t.t.now c.loop-t-test.true c.if-t-eq-LINE_END.true)
-
-pub loop-t-preserved : goal.loop-t-preserved
-loop-t-preserved c = let t = c.loop-t.t.now in
-    (search rules, omega (arith, c.loop-t.invariant.1, line_more t c.loop-t-test.true c.if-t-eq-LINE_END.false, ap line_length (part_tail 1 t)))
-
 pub returns : goal.returns
-returns c = omega (arith, c.loop-t.invariant.1, line_none c.loop-t.t.now c.loop-t-test.false)
+returns c =
+    let first = IsFirst-from_position _ _ c.position.result (λ x. x ≡ 10) (λ x. x ≢ 10) c.position.ensures.ran (YieldsList-from_slice c.args.text.now cc) (λ x q k. search (rules, tests)) (λ x q k. search (rules, tests)) in
+    c.unwrap_or.ensures ∙ sym (index_from_first line_length (λ x. x ≡ 10) (λ x. x ≢ 10) line_none line_hit line_miss c.args.text.now c.position.result first)

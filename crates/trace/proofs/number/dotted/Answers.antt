@@ -1,22 +1,22 @@
-use native.Mathlib.Omega.{arith}
-use mathlib.Core.Path.{sym, ap, ◌∙◌}
-use Rattle.octets.proofs.Runs.{part_tail}
-use Rattle.trace.specs.Lines.{starts_with}
-use Rattle.trace.specs.Numbers.{dot, value_of}
-use Rattle.trace.proofs.Numbers.{starts_inside, dotted_stop, dotted_more, low_bounded}
+use Rattle.std.proofs.Common.{arith}
+use Rattle.trace.proofs.Numbers.{dotted_none, dotted_some, decimal_bounds}
 use Rattle.trace.proofs.number.dotted.Goals as goal
 
-pub returns-then-not-starts : goal.returns-then-not-starts
-returns-then-not-starts c = dotted_stop c.args.text.now c.in-Read.value c.in-Read.len c.in-Read.is (ap (starts_with dot) (sym (part_tail c.in-Read.len c.args.text.now)) ∙ sym c.starts.ensures ∙ c.if-not-starts.true)
+pub returns-in_default : goal.returns-in_default
+returns-in_default c = dotted_none c.args.text.now c.args.high c.in_default.ensures.cases
 
-pub slice_bounds-decimal-count : goal.slice_bounds-decimal-count
-slice_bounds-decimal-count c = omega (arith, starts_inside dot c.in-Read.len c.args.text.now (ap (starts_with dot) (sym (part_tail c.in-Read.len c.args.text.now)) ∙ sym c.starts.ensures ∙ c.if-not-starts.false))
+pub returns-in_default-decimal : goal.returns-in_default-decimal
+returns-in_default-decimal c =
+    let found = c.in-Some.ensures.cases in
+    dotted_some c.args.text.now c.in-Some.rest.now c.args.high _ found.0 found.1 c.in_default-decimal.ensures
 
-pub slice_bounds-decimal-start : goal.slice_bounds-decimal-start
-slice_bounds-decimal-start c = omega (arith, starts_inside dot c.in-Read.len c.args.text.now (ap (starts_with dot) (sym (part_tail c.in-Read.len c.args.text.now)) ∙ sym c.starts.ensures ∙ c.if-not-starts.false))
+pub overflow_add-result : goal.overflow_add-result
+overflow_add-result c = omega (arith, decimal_bounds 255 _ c.in-Some-decimal.ensures)
 
-pub joined-requires : goal.joined-requires
-joined-requires c = (omega (arith, ap value_of c.in-Read.is), low_bounded c.args.text.now _ c.decimal.ensures (omega arith))
+pub overflow_add-result-2 : goal.overflow_add-result-2
+overflow_add-result-2 c = omega (arith, decimal_bounds 255 _ c.in-Some-decimal.ensures, c.in-Some.ensures.cases.2)
 
-pub returns-else-not-starts : goal.returns-else-not-starts
-returns-else-not-starts c = dotted_more c.args.text.now c.in-Read.value c.in-Read.len c.in-Read.is (ap (starts_with dot) (sym (part_tail c.in-Read.len c.args.text.now)) ∙ sym c.starts.ensures ∙ c.if-not-starts.false) c.decimal.ensures c.joined.ensures
+pub returns : goal.returns
+returns c =
+    let found = c.in-Some.ensures.cases in
+    dotted_some c.args.text.now c.in-Some.rest.now c.args.high _ found.0 found.1 c.in-Some-decimal.ensures

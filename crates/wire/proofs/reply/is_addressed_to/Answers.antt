@@ -1,15 +1,13 @@
-use Rattle.octets.proofs.Runs.{same_lengths}
-use native.Mathlib.Omega.{arith}
-use lib.ListN.{length, take, drop, length-take, length-drop}
-use mathlib.Core.Path.{◌≡◌, sym}
+use Rattle.std.proofs.Common.{◌≡◌, false, MatchOption, length, nat_eq, rules}
+use lib.Pointwise.{pointwise}
+use Rattle.wire.proofs.Walks.{six_at}
 use Rattle.wire.proofs.reply.is_addressed_to.Goals.{Start}
-use Rattle.std.proofs.Common.{rules}
 use Rattle.wire.proofs.reply.is_addressed_to.Goals as goal
 
 size : (c : Start) → length c.args.hardware ≡ 6
 size c = search rules
 
-pub returns-then-reply-lt34 : goal.returns-then-reply-lt34
-returns-then-reply-lt34 c = let s = c.args.reply.now in
-    let short : length (take 6 (drop 28 s)) ≡ length c.args.hardware → ⊥ = λ e. omega (arith, size (goal.at.returns-then-reply-lt34 c).Start, simp (length-take, length-drop) at e) in
-    sym (same_lengths (take 6 (drop 28 s)) c.args.hardware short)
+pub returns : goal.returns
+returns c =
+    let found : MatchOption c.get.result (c.is_some_and.result ≡ false) (λ x. c.is_some_and.result ≡ pointwise nat_eq x.now c.args.hardware) = search rules in
+    six_at _ _ c.get.result (size (goal.at.returns c).Start) c.get.ensures.lookup found

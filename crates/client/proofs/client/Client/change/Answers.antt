@@ -1,8 +1,8 @@
 use Rattle.client.proofs.Changes.{change_silent, change_sends}
 use Rattle.client.proofs.client.Client.change.Goals as goal
 
-pub returns-in-Nothing : goal.returns-in-Nothing
-returns-in-Nothing c = change_silent c.args.self c.args.rand c.args.moment _ c.waits.ensures c.decide-decision.ensures c.in-Nothing.is c.silent.ensures c.unmoved.ensures
+pub returns-in-None : goal.returns-in-None
+returns-in-None c = change_silent c.args.self.now c.args.rand c.args.moment _ c.waits.ensures c.decide-decision.ensures c.in-None.is c.silent.ensures c.unmoved.ensures
 
-pub returns-in-Send : goal.returns-in-Send
-returns-in-Send c = change_sends c.args.self c.args.rand c.args.moment _ c.waits.ensures c.decide-decision.ensures c.in-Send.is c.send.ensures
+pub returns-in-Some : goal.returns-in-Some
+returns-in-Some c = change_sends c.args.self.now c.args.rand c.args.moment _ c.waits.ensures c.decide-decision.ensures c.in-Some.is c.send.ensures

@@ -1,12 +1,7 @@
-use Rattle.wire.proofs.Walks.{from}
-use Rattle.wire.specs.Stored.{store_of, all_pushed}
-use lib.ListN.{length}
-use mathlib.Core.Path.{◌≡◌}
-use Prim.Native.Nat.{◌-◌, ◌≤◌}
+use Rattle.std.proofs.Common.{◌≡◌}
+use Rattle.wire.specs.Options.{options_left, options_of}
+use Rattle.wire.specs.Stored.{all_pushed, empty_store}
 use Rattle.wire.proofs.store.Store.of_reply.Given as goal
 
-abbrev pub invariant-loop-at : goal.invariant-loop-at
-invariant-loop-at l = (length l.bytes ≡ 256) × (l.used ≤ 256) × (store_of l.reply ≡ all_pushed (record { bytes = l.bytes; len = l.used }) (from l.reply l.at))
-
-abbrev pub decreases-loop-at : goal.decreases-loop-at
-decreases-loop-at l = length l.reply - l.at
+abbrev pub invariant-loop-item : goal.invariant-loop-item
+invariant-loop-item l = all_pushed empty_store (options_of l.reply) ≡ all_pushed l.store (options_left l.item-iterator)

@@ -1,5 +1,0 @@
-use Rattle.std.proofs.Common.{◌-◌}
-use Rattle.bench.proofs.calls.polls.Given as goal
-
-abbrev pub decreases-loop-turn : goal.decreases-loop-turn
-decreases-loop-turn g l = l.turns - l.turn

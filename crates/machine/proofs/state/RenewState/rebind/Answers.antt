@@ -1,7 +1,0 @@
-use mathlib.Core.Path.{◌∙◌}
-use Rattle.clock.specs.Clocks.{gathering, timer_after}
-use Rattle.machine.proofs.state.RenewState.rebind.Goals as goal
-
-pub returns : goal.returns
-unfolding gathering timer_after
-returns c = c.send.ensures ∙ rw (c.after-timer.ensures, c.rebind_wait.ensures)

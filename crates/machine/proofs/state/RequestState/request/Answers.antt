@@ -1,7 +1,0 @@
-use mathlib.Core.Path.{◌∙◌}
-use Rattle.clock.specs.Clocks.{clock_at, gathering, timer_after}
-use Rattle.machine.proofs.state.RequestState.request.Goals as goal
-
-pub returns : goal.returns
-unfolding clock_at gathering timer_after
-returns c = c.send.ensures ∙ rw (c.after-timer.ensures, c.request_wait.ensures, c.new.ensures)
