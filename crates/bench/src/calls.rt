@@ -34,9 +34,9 @@ pub fn none(rt: &impl Print, post: Post, turns: u64) -> io::Result<()> {
 // How long the lent buffer can be.
 const ROOM: usize = 600;
 
-// Polls, replies and creations have a `for` of their own: tried as closures, which zero their locals, they cost 70 to 80
-// instructions a turn more, where docs/SPEED.md takes the 27 of a turn without a call off each row. They take a case's numbers
-// one by one, from the struct that its line was read into.
+// Polls, replies and creations have a `for` of their own. As closures they were tried, and missed the bar: a turn without a call has
+// 26 instructions (docs/SPEED.md), and a closure's locals, zeroed each turn, cost 70 to 80 more. Step,
+// room and turns are a line's own numbers.
 pub fn polls(rt: &impl Print, post: Post, step: u32, room: usize, turns: u64) -> io::Result<()> {
     let mut lent = [LENT; ROOM];
     let Some(buf) = lent.get_mut(..room) else {

@@ -4,11 +4,11 @@ use crate::reply::{fill, reply_to};
 use crate::stage::at_stage;
 use post::Post;
 use std::io;
-use trace::read_record;
+use trace::{MOST_VALUES, read_record};
 
 // Any line that is no case is a title.
 pub fn run(rt: &impl Print, fresh: Post, text: &[u8]) -> io::Result<()> {
-    // With trace's line_at and after_line the place of each line would be counted by hand.
+    // With trace's line_at and after_line the place of each line would be counted by hand; three programs write this line.
     for line in text.split_inclusive(|c| *c == b'\n') {
         let line = line.strip_suffix(b"\n").unwrap_or(line);
         // Each kind of case is a struct, read by its own form: an enum over them would be matched once, here.
@@ -171,8 +171,8 @@ impl Other {
 }
 
 // The values of a case, zeros where it does not fit its form: it is then made no turns, and is no error.
-fn values(line: &[u8], form: &[u8]) -> [u64; 16] {
-    read_record(line, form).map_or([0; 16], |record| record.values)
+fn values(line: &[u8], form: &[u8]) -> [u64; MOST_VALUES] {
+    read_record(line, form).map_or([0; MOST_VALUES], |record| record.values)
 }
 
 fn size(v: u64) -> usize {

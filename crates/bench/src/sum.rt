@@ -10,7 +10,7 @@ use tables::Tables;
 pub struct Sum {
     a: u32,
     b: u32,
-    // Of the last answer, 0 where it was no refusal: a word of the digest, and printed so by the Rust's side too.
+    // The number of the last refusal, 0 after any other answer. It is no Option: the digest takes it as a word, here and in the Rust.
     number: u32,
 }
 

@@ -21,7 +21,7 @@ pub struct Settled<T> {
 }
 
 impl Settled<bool> {
-    // The same of a call that can be refused, and was not.
+    // The same outcome, of a call that could have been refused.
     pub(crate) fn done<E>(self) -> Settled<Result<bool, E>>
         ensures { result ≡ done_as self }
     {

@@ -48,8 +48,8 @@ impl Error for NotTaken {}
 pub type Processed = Settled<Result<bool, NotTaken>>;
 
 impl Client {
-    // Takes a reply, the UDP payload, or passes it over; refused as NotWhole (9) where client or tables are not whole. Its parameters
-    // stay apart as poll's do.
+    // Takes a reply, the UDP payload, or passes it over; refused as NotWhole (9) where client or tables are not whole. Its
+    // parameters stay apart as poll's do.
     pub fn process(
         mut self,
         tables: Tables,
@@ -68,7 +68,8 @@ impl Client {
             };
         }
         let verdict = self.recipient().judge(source, reply);
-        // each arm returns: of a match that answers, client and tables are copied once more, 242 instructions of a reply's 1,180
+        // each arm returns, as document 01 has the client go by value: a match whose arms made the answer would copy client and
+        // tables once more (docs/SPEED.md)
         match verdict {
             Ok(Verdict::Offer(offer)) => {
                 self.session.state = ClientState::requesting(offer.server, offer.address, moment);

@@ -19,7 +19,7 @@ impl Client {
     pub fn reset(self, tables: Tables) -> WasReset
         ensures { result ≡ calls.reset self tables }
     {
-        // tested here, as in poll and process: a function that handed client and tables on would copy both once more
+        // the same line as in poll and process, each of which answers in its own type
         let whole = self.is_whole() & tables.is_whole();
         if !whole {
             return Settled {

@@ -12,7 +12,8 @@ use machine::{ClientState, DhcpServerInfo};
 use tables::{Installed, Tables};
 
 impl Client {
-    // An ACK, with process' own parameters. One that brings the lease that is held moves the moments, ends rebinding, and changes nothing else.
+    // An ACK, with process' own parameters. One that brings the lease that is held moves the moments, ends rebinding, and changes
+    // nothing else.
     pub(crate) fn acked(
         mut self,
         tables: Tables,

@@ -110,10 +110,8 @@ impl Instant {
     pub fn saturating_duration_since(self, earlier: Instant) -> Duration
         ensures { result ≡ duration (rest self.millis earlier.millis) }
     {
-        if self.is_before(earlier) {
-            return Duration::ZERO;
-        }
-        Duration::from_millis(wrapped_gap(self.millis, earlier.millis))
+        self.checked_duration_since(earlier)
+            .unwrap_or(Duration::ZERO)
     }
 
     // The same under the name by which the Rust's `self - earlier` calls it: both names are ported.

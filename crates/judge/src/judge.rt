@@ -30,7 +30,7 @@ pub struct Offered {
     pub address: u32,
 }
 
-// What a server leases. It repeats the two fields of Offered: held as one, they would be no plainer to read.
+// What a server leases. It repeats the two fields of Offered: with one in it, each use would take a step more.
 #[derive(Clone, Copy, Debug, PartialEq, Eq)]
 pub struct Acked {
     pub server: DhcpServerInfo,

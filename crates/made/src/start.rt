@@ -25,7 +25,8 @@ pub const OFFERED: u32 = 0x0a000032;
 
 pub const HARDWARE: [u8; 6] = [2, 0, 0, 0, 0, 1];
 
-// MTU 1,500 on Ethernet; no name, request list, extra options or maximum.
+// MTU 1,500 on Ethernet; no name, request list, extra options or maximum. Field by field: a constant can't begin with what
+// Settings::zero() gives, since it calls no function.
 pub const PLAIN: Settings = Settings {
     medium: Medium::Ethernet,
     mtu: 1500,

@@ -22,7 +22,7 @@ pub struct Endpoints {
 
 // Writes a message as a datagram at the start of buf and answers the datagram's length, or refuses it as Name (3),
 // RequestList (4), ExtraOptions (5) or ShortBuffer (8) and writes nothing. With offload the device works the checksum out.
-// Its five parameters are of four owners, sender, settings, message and lists, and stay apart.
+// The endpoints come from the sender, offload from the settings, the fields and the lists from both: no struct has them together.
 pub fn write_message(
     buf: &mut [u8],
     ends: Endpoints,
@@ -40,8 +40,8 @@ pub fn write_message(
     Ok(put_datagram(buf, n, ends, offload, m, short))
 }
 
-// The datagram of a message of n octets at the start of buf. n comes from where the room was tested, since measuring walks the
-// lists; the rest is what write_message was given.
+// The datagram of a message of n octets at the start of buf. n comes from where the room was tested, so that a message is
+// measured once; the rest is what write_message was given.
 fn put_datagram(
     buf: &mut [u8],
     n: usize,

@@ -1,7 +1,7 @@
 // Writers of a message's pieces. Each is lent the buffer and the place to write at, lends what is left from there on, and
 // answers the place after what it wrote: document 01's form, "each option is written into what is left of the lent buffer".
-// They are no methods of a buffer and its place, as trace's Writer: the UDP header and the checksum are written at other places.
-// That an option's data has at most 255 octets stays a clause of each: a type for it would be made at four calls for three.
+// They are no methods of a buffer and its place, as trace's Writer has them: the checksum is written back, at 6, when all else
+// stands. That an option's data has at most 255 octets stays a clause of each: a type for it would be made anew for each option.
 #![tactic(auto, using(crate::proofs::Writers::none), unfolding(crate::specs::Messages::option_if))]
 
 ghost use Rattle.std.specs.Prelude.{◌≡◌, ◌+◌, ◌≤◌, length, option_copied};

@@ -6,7 +6,7 @@ ghost use Rattle.std.specs.Prelude.{◌≡◌, ◌+◌, ◌≤◌, ◌++◌, len
 ghost use Rattle.octets.specs.Runs.{same_bytes, over, placed, placed_length};
 ghost use Rattle.octets.specs.Items.{option, option_bytes};
 
-// Whether a and b hold the same octets: `==`, with the definition that contracts of other crates use.
+// Whether a and b hold the same octets. It is `==` under the definition that contracts of other crates use; nothing here calls it.
 pub fn same(a: &[u8], b: &[u8]) -> bool
     ensures { result ≡ same_bytes a.now b.now }
 {

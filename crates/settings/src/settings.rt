@@ -61,7 +61,7 @@ const DEFAULT_PARAMETER_REQUEST_LIST: [u8; 3] = [
 ];
 
 impl Settings {
-    // All zero, field by field: Default can't be derived, since an array over 32 long has none.
+    // All zero.
     pub fn zero() -> Settings
         ensures { result ≡ no_settings }
     {
@@ -120,7 +120,7 @@ impl Settings {
         self.checked().err()
     }
 
-    // The lists of a message; a request list is among them where it asks for options.
+    // The lists of a message. A Discover or a Request asks for options, and has the request list.
     fn lists(&self, asks: bool) -> Lists<'_>
         ensures name { result.name.now ≡ name_of self.now }
         ensures list { option_copied result.list ≡ asked_list asks self.now }
@@ -146,8 +146,8 @@ impl Settings {
     }
 
     // Writes a message of a client with these settings as a datagram at the start of buf, or refuses it as Name (3),
-    // RequestList (4), ExtraOptions (5) or ShortBuffer (8) and writes nothing. Whether it asks is the message's own affair, and the
-    // endpoints are its sender's: no struct here would hold both.
+    // RequestList (4), ExtraOptions (5) or ShortBuffer (8) and writes nothing. asks: whether the request
+    // list goes with it. Where it goes is its sender's: no struct here would hold both.
     pub fn write(
         self,
         m: Message,

@@ -3,7 +3,7 @@ use crate::form::Form;
 use octets::span::up_to;
 use std::error::Error;
 use std::fmt;
-use trace::{Misfit, octet_at, read_record};
+use trace::{MOST_VALUES, Misfit, octet_at, read_record};
 
 // A line has at most so many characters.
 const LONGEST_LINE: usize = 140000;
@@ -93,7 +93,7 @@ impl<'a> Octets<'a> {
 pub struct Record<'a> {
     pub form: Form,
     line: &'a [u8],
-    pub values: [Value; 16],
+    pub values: [Value; MOST_VALUES],
 }
 
 impl<'a> Record<'a> {

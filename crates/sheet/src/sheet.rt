@@ -26,8 +26,8 @@ impl<'a> Sheet<'a> {
         self.end();
     }
 
-    // The same, with so many zeros more behind its last octet. Values and octets stay two slices: in a struct of references a
-    // clause of trace's would speak of each at two moments.
+    // The same, with so many zeros more behind its last octet. Values and octets stay two slices, as in trace's
+    // write_record.
     pub fn write_padded<F: Into<Form>>(
         &mut self,
         form: F,

@@ -3,7 +3,7 @@
 
 ghost use Rattle.std.specs.Prelude.{◌≡◌, []};
 ghost use Rattle.std.specs.List.{cons_option};
-ghost use Rattle.tables.specs.Applied.{same_cidr, same_router, leased_addrs, leased_routes, applied};
+ghost use Rattle.tables.specs.Applied.{leased_addrs, leased_routes, applied};
 
 use crate::address::IfaceAddr;
 use crate::route::Route;

@@ -23,7 +23,7 @@ pub(crate) trait Entry: Copy {
 
     ghost is_dhcp: { Self → Bool };
 
-    // What an unused place of a written table holds. By Default it would take a law more, that `zero` is what this makes.
+    // What an unused place of a written table holds.
     fn zero() -> Self
         ensures { result ≡ zero };
 
@@ -36,8 +36,8 @@ pub(crate) trait Entry: Copy {
         ensures { result ≡ is_dhcp self };
 }
 
-// The first count entries are in use. An array with a count, as the project's rules have the tables: there is no heap, and a
-// count over the places has an answer too.
+// The first count entries are in use. An array with a count, as document 01 has the tables, and no type that keeps the count
+// within the places: a count over them has an answer too, NotWhole (9).
 #[derive(Clone, Copy, Debug, PartialEq, Eq)]
 pub struct Table<E> {
     pub entries: [E; PLACES],

@@ -23,8 +23,8 @@ impl Post {
         self.tell(sheet);
     }
 
-    // With what was sent, and the lent buffer up to the last octet that is not as it was lent. The buffer and what filled it are the
-    // call's, and stay beside the post, whose parts records set.
+    // With what was sent, and the lent buffer up to the last octet that is not as it was lent. The buffer, and the octet that it was
+    // filled with, are the call's and no part of the post.
     pub fn answer_poll(
         &self,
         outcome: Result<PollAnswer, Refusal>,
@@ -103,7 +103,7 @@ impl Post {
     }
 }
 
-// 0, or the number of a refusal or of a reply that is passed over.
+// 0, or the number of a refusal or of a reply that is passed over. Programs that print it write this expression themselves.
 fn number_of<T: Copy, E: Copy + Into<u32>>(outcome: Result<T, E>) -> u64 {
     match outcome {
         Ok(_) => 0,

@@ -64,7 +64,8 @@ pub fn settings(record: &Record<'_>) -> Result<Settings, Malformed> {
     })
 }
 
-// Any other number is taken as Ip. The numbers are the records' own (docs/TRACE.md), so this and number_of are no impls of Medium.
+// Any other number is taken as Ip. The numbers are the records' own (docs/TRACE.md), so this, and number_of in told.rt, are no
+// impls of Medium.
 fn medium_of(number: Value) -> Medium {
     match number.to::<u8>() {
         0 => Medium::Ethernet,

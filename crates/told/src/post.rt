@@ -1,5 +1,5 @@
-// A post, and what records set of it. It holds no post::Post: records set its parts one by one, and that one's calls hand client
-// and tables on, which costs a copy of both more.
+// A post, and what records set of it. It holds no post::Post: records set its parts one by one, and each would be reached through
+// one name more.
 use crate::made;
 use client::Client;
 use clock::{Duration, Instant, Rand};
@@ -79,7 +79,7 @@ impl Post {
     }
 }
 
-// Puts an entry behind those that are set.
+// Puts an entry behind those that are set. By hand: the arrays are the tables' own, with a count as document 01 has them.
 fn put<E: Copy>(entries: &mut [E], set: &mut usize, entry: E) -> Result<(), Malformed> {
     let Some(place) = entries.get_mut(*set) else {
         return Err(Malformed::NoRoom);

@@ -16,5 +16,5 @@ mod write;
 
 pub use digit::octet_at;
 pub use line::{after_line, begins, line_at, line_len};
-pub use record::{Misfit, Record, read_record};
+pub use record::{MOST_VALUES, Misfit, Record, read_record};
 pub use write::write_record;

@@ -6,10 +6,10 @@ use crate::form::Parts;
 use crate::taken::{Taken, part_taken};
 
 // The most values that a record has.
-const MOST_VALUES: usize = 16;
+pub const MOST_VALUES: usize = 16;
 
-// What was read of a line: its values in order, zeros after them, and how many they are. An array with a count, since there is
-// no heap.
+// What was read of a line: its values in order, zeros after them, and how many they are. An array with a count, as document 01
+// has others.
 #[derive(Clone, Copy, Debug, PartialEq, Eq)]
 pub struct Record {
     pub values: [u64; MOST_VALUES],

@@ -158,7 +158,7 @@ impl Writer<'_> {
 // A record, without the LF behind it: the form's text, each gap filled with the next of the values; octets (%x) take two, the
 // place of the first in `source` and how many they are. It is written over `buf` from `at` on, as far as there is room, and
 // the answer is the place behind it; where that is the buffer's end, the text may have been cut. Values and source stay two
-// slices: a struct of references has two moments in each clause.
+// slices: of a struct that holds references a contract says which of its two moments it means, as it comes or as it goes.
 pub fn write_record(buf: &mut [u8], at: usize, form: &[u8], values: &[u64], source: &[u8]) -> usize
     ensures { Wrote at (line_of form.now values.now source.now) buf.old result buf.new }
 {

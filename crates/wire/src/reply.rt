@@ -16,7 +16,7 @@ use reasons::PassedOver;
 // Opcode 2 (a reply), hardware type 1 and length 6 (Ethernet).
 const REPLY_START: [u8; 3] = [2, 1, 6];
 
-// At most three addresses, zeros after them: an array with a count, since there is no heap (document 01).
+// At most three addresses, zeros after them: an array with a count, as document 01 has the DNS servers.
 #[derive(Clone, Copy, Debug, PartialEq, Eq)]
 pub struct Addresses {
     pub list: [u32; 3],

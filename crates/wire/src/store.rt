@@ -95,8 +95,7 @@ impl Store {
     }
 }
 
-// The first item of a kind in s, whose first octet stands at `base`. A recursion over the rest, as the project's rules have
-// the look-up.
+// The first item of a kind in s, whose first octet stands at `base`. A recursion over the rest, as document 01 has the look-up.
 fn find_in(s: &[u8], base: usize, kind: u8) -> Option<Place>
     requires { base + length s.now ≤ 256 }
     ensures { result ≡ place_from kind base 0 s.now }

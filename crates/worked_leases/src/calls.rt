@@ -6,8 +6,8 @@ use made::{SERVER, Shown};
 use std::{fmt, io};
 use tables::Tables;
 
-// A client and its tables, which each call leaves to the next. Not the crate's post: no call here draws from a generator, and each
-// prints its line.
+// A client and its tables, which each call leaves to the next. It is not post::Post, which has a generator too: nothing here draws
+// from one.
 #[derive(Clone, Copy)]
 pub struct Post {
     pub client: Client,
@@ -22,7 +22,7 @@ impl Post {
         }
     }
 
-    // A reply of the server's, at a moment.
+    // A reply of the server's, at a moment; its parameters are told_by's.
     pub fn told(self, rt: &impl Print, asked: &str, reply: &[u8], millis: u32) -> io::Result<Post> {
         self.told_by(rt, asked, SERVER, reply, millis)
     }

@@ -51,7 +51,7 @@ impl Standing {
     }
 
     // After a poll: what was sent; how many octets at the end are as they were; and the four octets at a place of what was
-    // lent, the last part of the buffer. The line's numbers go in one by one, from the call's own variant.
+    // lent, the last part of the buffer. Moment, room and place are a line's own numbers.
     fn polled(
         self,
         rt: &impl Print,
@@ -130,6 +130,7 @@ impl fmt::Display for Standing {
     }
 }
 
+// In these lines' own words: made::Shown has others.
 #[derive(Clone, Copy)]
 struct State(ClientState);
 

@@ -21,7 +21,7 @@ where
     }
 }
 
-// Every entry, as its look-up by place answers: it is what is shown, so no loop goes over the entries.
+// Every entry, as its look-up by place answers. What is shown are the look-ups, so no loop goes over the tables' own entries.
 #[derive(Clone, Copy)]
 struct Entries(Tables);
 
