@@ -222,14 +222,19 @@ fn got(rt: &impl Print, asked: &str, place: Result<Option<Place>, Refusal>) -> i
     }
 }
 
+// What is stored of a reply with options 53, 54 and 1, an option 100 of so many octets, and an option 101 behind it.
+fn kept_with(octets: u8) -> Store {
+    let mut long = reply_with(&[
+        53, 1, 5, 54, 4, 10, 0, 0, 1, 1, 4, 255, 255, 255, 0, 100, octets,
+    ]);
+    put_bytes_at(&mut long, 257 + usize::from(octets), &[101, 1, 7, 255]);
+    Store::of_reply(&long)
+}
+
 // "An option that does not fit the store is skipped; a later, smaller one is still kept." 53, 54 and 1 take 15 octets: an
 // option 100 of 240 octets would need 242, one of 239 has its data at 17 and leaves none free.
 fn store(rt: &impl Print) -> io::Result<()> {
-    let mut long = reply_with(&[
-        53, 1, 5, 54, 4, 10, 0, 0, 1, 1, 4, 255, 255, 255, 0, 100, 240,
-    ]);
-    put_bytes_at(&mut long, 497, &[101, 1, 7, 255]);
-    let kept = Store::of_reply(&long);
+    let kept = kept_with(240);
     line(rt, "octets in use without 100", kept.len)?;
     got(rt, "53 in the store", kept.get(53))?;
     got(rt, "100 of 240 octets in the store", kept.get(100))?;
@@ -238,11 +243,7 @@ fn store(rt: &impl Print) -> io::Result<()> {
 }
 
 fn full(rt: &impl Print) -> io::Result<()> {
-    let mut long = reply_with(&[
-        53, 1, 5, 54, 4, 10, 0, 0, 1, 1, 4, 255, 255, 255, 0, 100, 239,
-    ]);
-    put_bytes_at(&mut long, 496, &[101, 1, 7, 255]);
-    let kept = Store::of_reply(&long);
+    let kept = kept_with(239);
     line(rt, "octets in use with 100", kept.len)?;
     got(rt, "100 of 239 octets in the store", kept.get(100))?;
     got(rt, "101 in a full store", kept.get(101))

@@ -77,6 +77,14 @@ fn unread(rt: &impl Print) -> io::Result<()> {
     Ok(())
 }
 
+// A table with an entry in each place, and so many in use.
+fn table_of<E: Copy>(entry: E, count: usize) -> Table<E> {
+    Table {
+        entries: [entry; 4],
+        count,
+    }
+}
+
 // "5 addresses". Only process and reset take the tables.
 fn addresses(rt: &impl Print) -> io::Result<()> {
     let asked = [
@@ -92,10 +100,7 @@ fn addresses(rt: &impl Print) -> io::Result<()> {
             dhcp: false,
         };
         Tables {
-            ip_addrs: Table {
-                entries: [entry; 4],
-                count,
-            },
+            ip_addrs: table_of(entry, count),
             ..Tables::new()
         }
     })
@@ -116,10 +121,7 @@ fn routes(rt: &impl Print) -> io::Result<()> {
             dhcp: false,
         };
         Tables {
-            routes: Table {
-                entries: [entry; 4],
-                count,
-            },
+            routes: table_of(entry, count),
             ..Tables::new()
         }
     })
