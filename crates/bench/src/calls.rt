@@ -81,7 +81,7 @@ pub fn creations(rt: &impl Print, turns: u64) -> io::Result<()> {
     for turn in 0..turns {
         client.settings.hardware[5] = (turn % 256) as u8;
         let created = Client::new(client.settings, false);
-        client = created.unwrap_or(Client::zero());
+        client = Client::or_zero(created);
         sum = sum.left(&client, &tables).done(created.map(|_| ()));
     }
     println!(rt; "{sum}")
@@ -95,7 +95,7 @@ pub fn resets(rt: &impl Print, post: Post, turns: u64) -> io::Result<()> {
 }
 
 // Changes by hand, of an entry that differs from turn to turn.
-pub fn changes<F: Fn(Tables, u32) -> Changed>(
+pub(crate) fn changes<F: Fn(Tables, u32) -> Changed>(
     rt: &impl Print,
     post: Post,
     turns: u64,

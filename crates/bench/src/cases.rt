@@ -4,19 +4,17 @@ use crate::reply::{fill, reply_to};
 use crate::stage::at_stage;
 use post::Post;
 use std::io;
-use trace::{MOST_VALUES, read_record};
+use trace::{MOST_VALUES, begins, lines_in, read_record};
 
 // Any line that is no case is a title.
 pub fn run(rt: &impl Print, fresh: Post, text: &[u8]) -> io::Result<()> {
-    // With trace's line_at and after_line the place of each line would be counted by hand; three programs write this line.
-    for line in text.split_inclusive(|c| *c == b'\n') {
-        let line = line.strip_suffix(b"\n").unwrap_or(line);
+    for line in lines_in(text) {
         // Each kind of case is a struct, read by its own form: an enum over them would be matched once, here.
-        if line.starts_with(b"poll ") {
+        if begins(line, b"poll ") {
             Poll::of(line).run(rt, fresh)?;
-        } else if line.starts_with(b"process ") {
+        } else if begins(line, b"process ") {
             Process::of(line).run(rt, fresh)?;
-        } else if line.starts_with(b"call ") {
+        } else if begins(line, b"call ") {
             Other::of(line).run(rt, fresh)?;
         } else {
             rt.write_all(line)?;

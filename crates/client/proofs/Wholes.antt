@@ -104,6 +104,11 @@ pub tested : (c : Client) (t : Tables) {a b : Bool} → a ≡ whole_client c →
 unfolding whole_all
 tested c t {a} {b} e f = both_tests a b ∙ ap (λ x. when x then b else false) e ∙ ap (λ x. when whole_client c then x else false) f
 
+-- Settings that nothing refuses get a client, and it is whole.
+pub unrefused_whole : (s : Settings) (ignoring : Bool) → refusal_of s ≡ None → (created s ignoring ≡ Ok (fresh s ignoring)) × (whole_client (fresh s ignoring) ≡ true)
+unfolding created
+unrefused_whole s ignoring e = (rw e refl, parts_whole (fresh s ignoring) e (unread_fits Init no_lease refl))
+
 -- Creation returns a whole client.
 pub created_whole : (s : Settings) (ignoring : Bool) {c : Client} → created s ignoring ≡ Ok c → whole_client c ≡ true
 unfolding created
@@ -112,7 +117,7 @@ created_whole s ignoring = by (refusal_of s) refl
     by : (m : Option Refusal) → refusal_of s ≡ m → {c : Client} → created_or m s ignoring ≡ Ok c → whole_client c ≡ true
     by None e {c} h =
         let same : fresh s ignoring ≡ c = cc in
-        subst (λ (x : Client). whole_client x ≡ true) same (parts_whole (fresh s ignoring) e (unread_fits Init no_lease refl))
+        subst (λ (x : Client). whole_client x ≡ true) same (unrefused_whole s ignoring e).1
     by (Some reason) e h = cc
 
 abbrev pub Whole : Settled Bool → Type 0

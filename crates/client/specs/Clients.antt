@@ -53,6 +53,11 @@ created_or (Some refusal) settings ignoring = Err refusal
 unfoldable pub created : Settings → Bool → Result Client Refusal
 created settings ignoring = created_or (refusal_of settings) settings ignoring
 
+-- What stands after creation for who goes on.
+abbrev pub or_zero : Result Client Refusal → Client
+or_zero (Ok c) = c
+or_zero (Err refusal) = no_client
+
 -- The lease is read in Renewing alone.
 unfoldable pub lease_fits : ClientState → DhcpLease → Bool
 lease_fits state lease = when has_lease state then whole_lease lease else true

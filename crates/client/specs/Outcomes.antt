@@ -2,6 +2,8 @@
 use Rattle.std.specs.Prelude.{ℕ, Bool, Result, Ok}
 use Rattle.reasons.specs.Numbers.{refusal_number, passed_over_number}
 use Rattle.reasons.specs.declared.refusal.Refusal.{Refusal}
+use Rattle.tables.specs.declared.apply.Applied.{Applied}
+use Rattle.client.specs.declared.client.Client.{Client}
 use Rattle.client.specs.declared.client.Settled.{Settled}
 use Rattle.client.specs.declared.process.NotTaken.{NotTaken}
 use Rattle.client.specs.declared.process.NotTaken.TheVariants.{PassedOver, Refused}
@@ -12,6 +14,10 @@ Processed = Settled (Result Bool NotTaken)
 
 abbrev pub WasReset : Type 0
 WasReset = Settled (Result Bool Refusal)
+
+-- A client that a call has changed in place, and what it did to the tables.
+abbrev pub settled : Client → Applied → Settled Bool
+settled c a = record { client = c; tables = a.tables; outcome = a.purge }
 
 -- What was not refused, of a call that can be.
 abbrev pub done_as : {E : Type 0} → Settled Bool → Settled (Result Bool E)

@@ -3,8 +3,7 @@
 
 ghost use Rattle.std.specs.Prelude.{◌≡◌};
 ghost use Rattle.client.specs.Calls.{calls};
-ghost use Rattle.client.specs.Outcomes.{done_as};
-ghost use Rattle.client.specs.Clients.{no_client, fresh, whole_client, lease_fits, checked};
+ghost use Rattle.client.specs.Clients.{no_client, or_zero, fresh, whole_client, lease_fits, checked};
 
 use lease::DhcpLease;
 use machine::ClientState;
@@ -18,19 +17,6 @@ pub struct Settled<T> {
     pub client: Client,
     pub tables: Tables,
     pub outcome: T,
-}
-
-impl Settled<bool> {
-    // The same outcome, of a call that could have been refused.
-    pub(crate) fn done<E>(self) -> Settled<Result<bool, E>>
-        ensures { result ≡ done_as self }
-    {
-        Settled {
-            client: self.client,
-            tables: self.tables,
-            outcome: Ok(self.outcome),
-        }
-    }
 }
 
 // Where the client is with its servers: what calls change most.
@@ -90,6 +76,13 @@ impl Client {
             },
             lease,
         }
+    }
+
+    // For who goes on after creation: the client, or where that was refused one that is all zero, which each call refuses by 9.
+    pub fn or_zero(created: Result<Client, Refusal>) -> Client
+        ensures { result ≡ or_zero created }
+    {
+        created.unwrap_or(Client::zero())
     }
 
     // Whether nothing refuses the settings, and a lease that is held is whole.

@@ -89,7 +89,7 @@ impl Client {
     fn dropping(self, tables: Tables, change: PollChange) -> Polled
         ensures { result ≡ left_by (dropped self tables) change }
     {
-        let mut settled = self.dropped(tables);
+        let mut settled = self.dropped::<Refusal>(tables);
         settled.client.session = change.session;
         Polled {
             client: settled.client,

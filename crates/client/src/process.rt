@@ -79,8 +79,15 @@ impl Client {
                     outcome: Ok(false),
                 };
             }
-            Ok(Verdict::Ack(ack)) => return self.acked(tables, reply, moment, ack).done(),
-            Ok(Verdict::Nak) => return self.cleared(tables).done(),
+            Ok(Verdict::Ack(ack)) => {
+                let applied = self.acked(tables, reply, moment, ack);
+                return Settled {
+                    client: self,
+                    tables: applied.tables,
+                    outcome: Ok(applied.purge),
+                };
+            }
+            Ok(Verdict::Nak) => return self.cleared(tables),
             Err(reason) => {
                 return Settled {
                     client: self,

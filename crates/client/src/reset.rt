@@ -3,7 +3,8 @@
 
 ghost use Rattle.std.specs.Prelude.{◌≡◌};
 ghost use Rattle.client.specs.Calls.{calls};
-ghost use Rattle.client.specs.Resets.{restarted, dropped, cleared};
+ghost use Rattle.client.specs.Outcomes.{done_as};
+ghost use Rattle.client.specs.Resets.{dropped, cleared};
 
 use crate::client::{Client, Settled};
 use lease::{DhcpLease, nothing};
@@ -28,33 +29,27 @@ impl Client {
                 outcome: Err(Refusal::NotWhole),
             };
         }
-        self.cleared(tables).done()
+        self.cleared(tables)
     }
 
     // A whole client's reset, and whether link state is to be purged. Where no lease is held, what stands in its place is left.
-    pub(crate) fn cleared(self, tables: Tables) -> Settled<bool>
-        ensures { result ≡ cleared self tables }
+    pub(crate) fn cleared<E>(mut self, tables: Tables) -> Settled<Result<bool, E>>
+        ensures { result ≡ done_as (cleared self tables) }
     {
         if self.session.state.has_lease() {
             return self.dropped(tables);
         }
-        self.restarted(tables)
-    }
-
-    fn restarted(mut self, tables: Tables) -> Settled<bool>
-        ensures { result ≡ restarted self tables }
-    {
         self.session.state = ClientState::Init;
         Settled {
             client: self,
             tables,
-            outcome: false,
+            outcome: Ok(false),
         }
     }
 
     // The lease goes, and with it what it has put into the tables.
-    pub(crate) fn dropped(mut self, tables: Tables) -> Settled<bool>
-        ensures { result ≡ dropped self tables }
+    pub(crate) fn dropped<E>(mut self, tables: Tables) -> Settled<Result<bool, E>>
+        ensures { result ≡ done_as (dropped self tables) }
     {
         let applied = tables.dhcpv4_apply(nothing(), self.lease.installed());
         self.session.state = ClientState::Init;
@@ -62,7 +57,7 @@ impl Client {
         Settled {
             client: self,
             tables: applied.tables,
-            outcome: applied.purge,
+            outcome: Ok(applied.purge),
         }
     }
 }

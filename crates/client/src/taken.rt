@@ -2,26 +2,27 @@
 #![tactic(auto, using(choice::proofs::Choices::if_true, choice::proofs::Choices::if_false), unfolding(crate::specs::Taken::holds, crate::specs::Taken::held_by, crate::specs::Taken::acked, crate::specs::Taken::acked_as))]
 
 ghost use Rattle.std.specs.Prelude.{◌≡◌};
+ghost use Rattle.client.specs.Outcomes.{settled};
 ghost use Rattle.client.specs.Taken.{server_of, holds, held_by, acked, entered};
 
-use crate::client::{Client, Session, Settled};
+use crate::client::{Client, Session};
 use clock::Instant;
 use judge::Acked;
 use lease::{DhcpLease, nothing};
 use machine::{ClientState, DhcpServerInfo};
-use tables::{Installed, Tables};
+use tables::{Applied, Installed, Tables};
 
 impl Client {
-    // An ACK, with process' own parameters. One that brings the lease that is held moves the moments, ends rebinding, and changes
-    // nothing else.
+    // An ACK, with process' own parameters, in place: a client that is handed on is copied once more. One that brings the lease
+    // that is held moves the moments, ends rebinding, and changes nothing else.
     pub(crate) fn acked(
-        mut self,
+        &mut self,
         tables: Tables,
         reply: &[u8],
         moment: Instant,
         ack: Acked,
-    ) -> Settled<bool>
-        ensures { result ≡ acked self tables reply.now moment ack }
+    ) -> Applied
+        ensures { settled self.new result ≡ acked self.old tables reply.now moment ack }
     {
         let was = self.session;
         let state = was.state;
@@ -33,27 +34,22 @@ impl Client {
         };
         if holds(state, self.lease, lease) {
             self.session = session;
-            return Settled {
-                client: self,
+            return Applied {
                 tables,
-                outcome: false,
+                purge: false,
             };
         }
         self.entered(tables, session, lease)
     }
 
     // Another lease, in the place of the one that is held, if one is.
-    fn entered(mut self, tables: Tables, session: Session, lease: DhcpLease) -> Settled<bool>
-        ensures { result ≡ entered self tables session lease }
+    fn entered(&mut self, tables: Tables, session: Session, lease: DhcpLease) -> Applied
+        ensures { settled self.new result ≡ entered self.old tables session lease }
     {
         let applied = tables.dhcpv4_apply(lease.installed(), held(self.session.state, self.lease));
         self.session = session;
         self.lease = lease;
-        Settled {
-            client: self,
-            tables: applied.tables,
-            outcome: applied.purge,
-        }
+        applied
     }
 }
 

@@ -7,7 +7,7 @@ use native.Mathlib.Omega.{arith}
 use Rattle.clock.specs.Durations.{clamp}
 
 -- 30 doublings take any wait but zero to the longest duration
-many_doublings : (first n : ℕ) → 30 ≤ n → clamp (first * 2 ^ 30) ≡ clamp (first * 2 ^ n)
+pub many_doublings : (first n : ℕ) → 30 ≤ n → clamp (first * 2 ^ 30) ≡ clamp (first * 2 ^ n)
 many_doublings first n h = by_first first (pow-le-pow_right {n = 2} (omega arith) h)
   where
     by_first : (first : ℕ) → 2 ^ 30 ≤ 2 ^ n → clamp (first * 2 ^ 30) ≡ clamp (first * 2 ^ n)

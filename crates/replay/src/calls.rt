@@ -76,7 +76,7 @@ impl<'a> Replay<'a> {
     fn create(&mut self) {
         let Post { client, tables, .. } = self.post;
         let created = Client::new(client.settings, client.ignore_naks);
-        self.post.leave(created.unwrap_or(Client::zero()), tables);
+        self.post.leave(Client::or_zero(created), tables);
         self.post.answer_new(created.map(|_| ()), &mut self.sheet);
     }
 

@@ -5,6 +5,7 @@ use crate::calls::Replay;
 use sheet::Malformed;
 use std::io;
 use std::io::Read;
+use trace::lines_in;
 
 // So many octets of answers are handed on, fewer when no call is there.
 const ENOUGH: usize = 65536;
@@ -53,9 +54,8 @@ fn answer(
     text: &[u8],
     replay: &mut Replay<'_>,
 ) -> io::Result<Result<(), Malformed>> {
-    // With trace's line_at and after_line the place of each line would be counted by hand.
-    for line in text.split_inclusive(|c| *c == b'\n') {
-        let outcome = replay.line(line.strip_suffix(b"\n").unwrap_or(line));
+    for line in lines_in(text) {
+        let outcome = replay.line(line);
         if outcome.is_err() {
             return Ok(outcome);
         }

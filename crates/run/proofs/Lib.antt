@@ -17,3 +17,4 @@ pub mod Fields
 pub mod Latest
 pub mod Laws
 pub mod Admitted
+pub mod Numbers

@@ -2,6 +2,9 @@
 use crate::form::Form;
 use octets::span::up_to;
 
+// Zeros, to be written many at a time.
+const ZEROS: [u8; 256] = [0; 256];
+
 // There is no heap: the room is lent, and its first so many octets are written.
 #[derive(Drop)]
 pub struct Sheet<'a> {
@@ -36,9 +39,11 @@ impl<'a> Sheet<'a> {
         zeros: usize,
     ) {
         self.begin(form.into().text(), values, octets);
-        for _ in 0..zeros {
-            self.begin(b"00", &[], &[]);
+        // Many at a time: an octet by itself would cost a record each.
+        for _ in 0..zeros / ZEROS.len() {
+            self.begin(b"%x", &[0, ZEROS.len() as u64], &ZEROS);
         }
+        self.begin(b"%x", &[0, (zeros % ZEROS.len()) as u64], &ZEROS);
         self.end();
     }
 

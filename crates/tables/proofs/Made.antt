@@ -12,7 +12,7 @@ module _ {A : Type 0} (z : A) where
   in_use_table xs = take-append_seam xs (replicate (places - length xs) z)
 
   -- one entry more, behind those that are there
-  set_next : (x : A) (xs : List A) → length xs < places → set (in_places z xs) (length xs) x ≡ in_places z (xs ++ (x ∷ []))
+  pub set_next : (x : A) (xs : List A) → length xs < places → set (in_places z xs) (length xs) x ≡ in_places z (xs ++ (x ∷ []))
   set_next x xs h =
       let e₁ : places - length xs ≡ suc (places - suc (length xs)) = omega arith in
       let e₂ : places - length (xs ++ (x ∷ [])) ≡ places - suc (length xs) = simp length-append (omega arith) in

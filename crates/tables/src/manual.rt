@@ -66,12 +66,10 @@ impl Tables {
         ensures { answered self result ≡ drop_address self address prefix }
     {
         self.admits(prefix)?;
-        let named = IfaceAddr {
-            address,
-            prefix,
-            dhcp: false,
-        };
-        let ip_addrs = self.ip_addrs.kept(|entry| *entry != named);
+        // Without branches: by `!=` of the entries, as with routes, the call is too long to be inlined into a caller's loop.
+        let ip_addrs = self.ip_addrs.kept(|entry| {
+            entry.dhcp | !((entry.address == address) & (entry.prefix == prefix))
+        });
         Ok(Tables { ip_addrs, ..self })
     }
 

@@ -78,18 +78,21 @@ impl<E: Entry> Table<E> {
     }
 
     // The table written anew: what stays, in its order, zeros after.
-    pub(crate) fn kept<F: Fn(&E) -> bool>(self, stays: F) -> Table<E>
+    pub(crate) fn kept<F: Fn(&E) -> bool>(&self, stays: F) -> Table<E>
         requires { F.IsAlwaysCallable stays }
-        ensures { (test : E → Bool) → Computes F.Fn stays test → result ≡ table E.zero (only test (in_use self)) }
+        ensures { (test : E → Bool) → Computes F.Fn stays test → result ≡ table E.zero (only test (in_use self.now)) }
     {
-        let entries = self.in_use();
-        let mut kept = Table::empty();
-        for entry in entries {
+        let used = self.in_use();
+        // Two locals, written in place: a table that `with` hands on is copied for each entry that stays.
+        let mut entries = [E::zero(); PLACES];
+        let mut count = 0;
+        for entry in used {
             if stays(entry) {
-                kept = kept.with(*entry);
+                entries[count] = *entry;
+                count += 1;
             }
         }
-        kept
+        Table { entries, count }
     }
 
     // A table that was written anew, with one entry more, if there is room.
@@ -120,7 +123,9 @@ impl<E: Entry> Table<E> {
         if same {
             return self;
         }
-        let others = self.kept(|entry| !entry.is_dhcp());
+        // A copy of its own: read through `self`, the entries are loaded even where the table stays as it is.
+        let table = self;
+        let others = table.kept(|entry| !entry.is_dhcp());
         match new {
             Some(entry) => others.with(entry),
             None => others,

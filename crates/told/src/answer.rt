@@ -29,7 +29,7 @@ impl Post {
         &self,
         outcome: Result<PollAnswer, Refusal>,
         lent: &[u8],
-        fill: u8,
+        fill: u32,
         sheet: &mut Sheet<'_>,
     ) {
         let answer = outcome.unwrap_or(REFUSED);

@@ -80,12 +80,18 @@ written {p} {r} {text} {xs} {ys} o = record {
   bytes = sym (o.bytes ∙ take-append-drop r ys);
 }
 
+pub written_rest : {p r : ℕ} {text rest xs ys : List ℕ} → Onward p text xs r rest ys → rest ≡ [] → Wrote p text xs r ys
+written_rest {p} {r} {text} {rest} {xs} {ys} o e = written (subst (λ (l : List ℕ). Onward p text xs r l ys) e o)
+
 -- two writers in a row are one that writes both
 pub row : {p r s : ℕ} {a b xs ys zs : List ℕ} → Wrote p a xs r ys → Wrote r b ys s zs → Wrote p (a ++ b) xs s zs
 row f g = let o = onward whole f refl in record {
   ends = g.ends ∙ sym o.ends;
   bytes = g.bytes ∙ sym o.bytes;
 }
+
+pub wrote_as : {p r : ℕ} {a b xs ys : List ℕ} → Wrote p a xs r ys → a ≡ b → Wrote p b xs r ys
+wrote_as {p} {r} {xs = xs} {ys = ys} w e = subst (λ (l : List ℕ). Wrote p l xs r ys) e w
 
 -- where there is room the text stands whole, and the rest of the buffer is as it was
 pub record Held (p : ℕ) (text xs : List ℕ) (r : ℕ) (ys : List ℕ) : Type 0 where

@@ -15,6 +15,6 @@ mod taken;
 mod write;
 
 pub use digit::octet_at;
-pub use line::{after_line, begins, line_at, line_len};
+pub use line::{TextLines, after_line, begins, line_at, line_len, lines_in};
 pub use record::{MOST_VALUES, Misfit, Record, read_record};
 pub use write::write_record;

@@ -1,6 +1,7 @@
-// Lines of a text, and what a line begins with. line_at, after_line and begins are for those who read records elsewhere.
+// Lines of a text, and what a line begins with.
 ghost use Rattle.std.specs.Prelude.{◌≡◌};
-ghost use Rattle.trace.specs.Lines.{line_length, line_at, after_line, begins_with, starts_with};
+ghost use Rattle.std.specs.Iterator.{YieldsFirstRef, item_count};
+ghost use Rattle.trace.specs.Lines.{line_length, line_at, after_line, lines_of, lines_left, begins_with, starts_with};
 
 // LF, with which a line ends.
 const LINE_END: u8 = b'\n';
@@ -31,6 +32,35 @@ pub fn after_line(text: &[u8], at: usize) -> usize
     match text.get(at..) {
         Some(rest) => at + (line_len(rest) + 1).min(rest.len()),
         None => at,
+    }
+}
+
+// What is left of a text's lines, in order, each without its LF; the last one may have none.
+#[derive(Clone, Copy, Debug)]
+pub struct TextLines<'a> {
+    rest: &'a [u8],
+}
+
+pub fn lines_in(text: &[u8]) -> TextLines<'_>
+    ensures { lines_left result ≡ lines_of text.now }
+{
+    TextLines { rest: text }
+}
+
+impl<'a> Iterator for TextLines<'a> {
+    type Item = &'a [u8];
+
+    ghost next_gives = { YieldsFirstRef lines_left };
+
+    ghost remaining = { item_count lines_left };
+
+    fn next(&mut self) -> Option<&'a [u8]> {
+        let text = self.rest;
+        if text.is_empty() {
+            return None;
+        }
+        self.rest = &text[after_line(text, 0)..];
+        Some(line_at(text, 0))
     }
 }
 

@@ -50,6 +50,38 @@ impl Part {
     }
 }
 
+// One character over a buffer, at a place; the place behind it.
+fn put_char(buf: &mut [u8], at: usize, c: u8) -> usize
+    ensures { Wrote at (c ∷ []) buf.old result buf.new }
+{
+    if at < buf.len() {
+        buf[at] = c;
+        return at + 1;
+    }
+    at
+}
+
+// An octet, as two digits.
+fn put_octet(buf: &mut [u8], at: usize, octet: u8) -> usize
+    ensures { Wrote at (digit_char_of (octet / 16) ∷ digit_char_of (octet % 16) ∷ []) buf.old result buf.new }
+{
+    let high = digit_char(octet / 16);
+    let low = digit_char(octet % 16);
+    let next = put_char(buf, at, high);
+    put_char(buf, next, low)
+}
+
+// Octets, two digits each. The place is a local: kept in a Writer it is stored and loaded at each digit, a quarter of the time.
+fn put_octets(buf: &mut [u8], at: usize, octets: &[u8]) -> usize
+    ensures { Wrote at (octets_text octets.now) buf.old result buf.new }
+{
+    let mut place = at;
+    for octet in octets {
+        place = put_octet(buf, place, *octet);
+    }
+    place
+}
+
 // A place in a lent buffer. Text is written from there on, and the place is behind it then; where that is the buffer's end,
 // the text may have been cut.
 #[derive(Drop)]
@@ -63,29 +95,14 @@ impl Writer<'_> {
     fn put(&mut self, c: u8)
         ensures { Writes (c ∷ []) self.old self.new }
     {
-        if self.at < self.buf.len() {
-            self.buf[self.at] = c;
-            self.at += 1;
-        }
-    }
-
-    // An octet, as two digits.
-    fn put_octet(&mut self, octet: u8)
-        ensures { Writes (digit_char_of (octet / 16) ∷ digit_char_of (octet % 16) ∷ []) self.old self.new }
-    {
-        let high = digit_char(octet / 16);
-        let low = digit_char(octet % 16);
-        self.put(high);
-        self.put(low);
+        self.at = put_char(self.buf, self.at, c);
     }
 
     // Octets, two digits each.
     fn put_octets(&mut self, octets: &[u8])
         ensures { Writes (octets_text octets.now) self.old self.new }
     {
-        for octet in octets {
-            self.put_octet(*octet);
-        }
+        self.at = put_octets(self.buf, self.at, octets);
     }
 
     // A number in decimal.

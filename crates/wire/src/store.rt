@@ -55,11 +55,12 @@ impl Store {
     pub fn of_reply(reply: &[u8]) -> Store
         ensures { result ≡ store_of reply.now }
     {
-        let mut store = Store::new();
+        let mut bytes = [0; CAPACITY];
+        let mut len = 0;
         for item in Options::of(reply) {
-            store.put(item.code, item.body);
+            len += put_option_at(&mut bytes, len, item.code, item.body);
         }
-        store
+        Store { bytes, len }
     }
 
     // Whether the store is whole items.

@@ -199,7 +199,7 @@ fn created(rt: &impl Print) -> io::Result<()> {
 
 // Who goes on without a client has one that is all zero, and its MTU of 0 has each call refused.
 fn refused(rt: &impl Print) -> io::Result<()> {
-    let refused = Client::new(full(576), true).unwrap_or(Client::zero());
+    let refused = Client::or_zero(Client::new(full(576), true));
     let zero = Client {
         settings: Settings::zero(),
         ignore_naks: false,

@@ -2,7 +2,7 @@
 // the tables: generation, addresses, default route; a star marks an entry of DHCP's.
 use client::{Client, NotTaken, Settled};
 use clock::Instant;
-use made::{SERVER, Shown};
+use made::{Refused, SERVER, Shown};
 use std::{fmt, io};
 use tables::Tables;
 
@@ -76,16 +76,19 @@ impl fmt::Display for Post {
             f,
             "{state}, id {id} | {lease} stored {stored} | {generation} |"
         )?;
-        // The look-up by place is what is shown; on tables that are not whole it is refused, as the call before it was.
+        // The look-up by place is what is shown, and where it is refused, that.
         for place in 0..4 {
-            if let Ok(Some(entry)) = tables.addr_at(place) {
-                write!(f, " {}", Shown(entry))?;
+            match tables.addr_at(place) {
+                Ok(Some(entry)) => write!(f, " {}", Shown(entry))?,
+                Ok(None) => {}
+                Err(refusal) => write!(f, " {}", Refused(refusal))?,
             }
         }
         f.write_str(" |")?;
         match tables.default_ipv4_route() {
             Ok(Some(route)) => write!(f, " {}", Shown(route)),
-            _ => Ok(()),
+            Ok(None) => Ok(()),
+            Err(refusal) => write!(f, " {}", Refused(refusal)),
         }
     }
 }

@@ -20,7 +20,7 @@ pub fn settings(unused: u8) -> Settings {
 
 // A client with these settings, which passes NAKs over; all zero where they are refused.
 pub fn created(settings: Settings) -> Client {
-    Client::new(settings, true).unwrap_or(Client::zero())
+    Client::or_zero(Client::new(settings, true))
 }
 
 // Due at 5,000, after one Request.

@@ -28,12 +28,12 @@ pub enum Call {
     State(ClientState),
 }
 
-// A reply's message type, and two options of four octets, by kind and number. Kind 0 is padding, as RFC 2132 has it, and no
-// Option: the number's octets follow it all the same.
+// A reply's message type, and two options of four octets, by kind and number, as the line has them. Kind 0 is padding, as RFC
+// 2132 has it, and no Option: the number's octets follow it all the same.
 #[derive(Clone, Copy)]
 pub struct Told {
     kind: u8,
-    options: [(u8, u32); 2],
+    options: [(u32, u32); 2],
 }
 
 impl Call {
@@ -112,7 +112,7 @@ fn reply(kind: u8, numbers: [u32; 10]) -> Call {
         step: Duration { millis },
         told: Told {
             kind,
-            options: [((first % 256) as u8, a), ((second % 256) as u8, b)],
+            options: [(first, a), (second, b)],
         },
     }
 }
@@ -141,8 +141,9 @@ impl Told {
     }
 }
 
-fn option((kind, number): (u8, u32)) -> [u8; 6] {
+// Only 0 itself has no length: of a larger kind the last eight bits are written, and 4 behind them.
+fn option((kind, number): (u32, u32)) -> [u8; 6] {
     let [a, b, c, d] = number.to_be_bytes();
     let length = if kind == 0 { 0 } else { 4 };
-    [kind, length, a, b, c, d]
+    [(kind % 256) as u8, length, a, b, c, d]
 }

@@ -14,6 +14,7 @@ use call::Call;
 use made::filled;
 use standing::Standing;
 use std::io;
+use trace::lines_in;
 
 fn main(rt: HostRuntime) -> io::Result<()> {
     let mut text = [0u8; 65536];
@@ -23,9 +24,7 @@ fn main(rt: HostRuntime) -> io::Result<()> {
 // Before the first line there is a post without a client: MTU 0 is refused.
 fn run(rt: &impl Print, text: &[u8]) -> io::Result<()> {
     let mut standing = Standing::new(0, 0, call::settings([0; 10]));
-    // Not split alone: it has one line more, an empty one behind the last line's end.
-    for line in text.split_inclusive(|c| *c == b'\n') {
-        let words = line.strip_suffix(b"\n").unwrap_or(line);
+    for words in lines_in(text) {
         rt.write_all(words)?;
         if let Some(call) = Call::of(words) {
             standing = standing.after(rt, call)?;

@@ -24,14 +24,13 @@ const ROOM: usize = 700;
 impl Standing {
     // Settings that are refused leave a client that is all zero.
     pub fn new(millis: u32, seed: u32, settings: Settings) -> Standing {
-        let rand = Rand::new(u64::from(seed));
-        let refused = Post {
-            client: Client::zero(),
+        let post = Post {
+            client: Client::or_zero(Client::new(settings, false)),
             tables: Tables::new(),
-            rand,
+            rand: Rand::new(u64::from(seed)),
         };
         Standing {
-            post: Post::new(settings, rand).unwrap_or(refused),
+            post,
             now: Instant { millis },
         }
     }

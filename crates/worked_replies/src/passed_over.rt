@@ -103,32 +103,58 @@ fn identifiers(rt: &impl Print) -> io::Result<()> {
     )
 }
 
-// "26 not awaited (ACK in Init)". Of the values of option 53 a client awaits 2, 5 and 6. An ACK here is a good one, any other
-// reply has nothing but its identifier.
+// "26 not awaited (ACK in Init)". Of the values of option 53 a client awaits 2, 5 and 6.
 fn not_awaited(rt: &impl Print) -> io::Result<()> {
-    for (asked, client, kind) in [
-        ("ACK in Init", init(), ACK),
-        ("OFFER in Init", init(), OFFER),
-        ("NAK in Init", init(), NAK),
-        ("ACK in Discovering", discovering(), ACK),
-        ("NAK in Discovering", discovering(), NAK),
-        ("OFFER in Discovering", discovering(), OFFER),
-        ("OFFER in Requesting", requesting(), OFFER),
-        ("NAK in Requesting", requesting(), NAK),
-        ("ACK in Renewing", renewing(), ACK),
-        ("OFFER in Renewing", renewing(), OFFER),
-        ("NAK in Renewing", renewing(), NAK),
-        ("type 0 in Requesting", requesting(), 0),
-        ("type 1 in Discovering", discovering(), 1),
-        ("type 3 in Requesting", requesting(), 3),
-        ("type 4 in Renewing", renewing(), 4),
-        ("type 7 in Renewing", renewing(), 7),
-        ("type 255 in Requesting", requesting(), 255),
-    ] {
-        let reply = if kind == ACK {
+    each(
+        rt,
+        init(),
+        &[
+            ("ACK in Init", ACK),
+            ("OFFER in Init", OFFER),
+            ("NAK in Init", NAK),
+        ],
+    )?;
+    each(
+        rt,
+        discovering(),
+        &[
+            ("ACK in Discovering", ACK),
+            ("NAK in Discovering", NAK),
+            ("OFFER in Discovering", OFFER),
+        ],
+    )?;
+    each(
+        rt,
+        requesting(),
+        &[("OFFER in Requesting", OFFER), ("NAK in Requesting", NAK)],
+    )?;
+    each(
+        rt,
+        renewing(),
+        &[
+            ("ACK in Renewing", ACK),
+            ("OFFER in Renewing", OFFER),
+            ("NAK in Renewing", NAK),
+        ],
+    )?;
+    each(rt, requesting(), &[("type 0 in Requesting", 0)])?;
+    each(rt, discovering(), &[("type 1 in Discovering", 1)])?;
+    each(rt, requesting(), &[("type 3 in Requesting", 3)])?;
+    each(
+        rt,
+        renewing(),
+        &[("type 4 in Renewing", 4), ("type 7 in Renewing", 7)],
+    )?;
+    each(rt, requesting(), &[("type 255 in Requesting", 255)])
+}
+
+// Replies of these types to a client. An ACK here is a good one, any other reply has nothing but its identifier.
+fn each(rt: &impl Print, client: Client, cases: &[(&str, u8)]) -> io::Result<()> {
+    for (asked, kind) in cases {
+        let reply = if *kind == ACK {
             ack(&[])
         } else {
-            HEADER.typed(kind, &[])
+            HEADER.typed(*kind, &[])
         };
         tried(rt, asked, client, SERVER, &reply)?;
     }

@@ -35,7 +35,7 @@ impl Tally {
     }
 
     // What happened counts in both.
-    pub fn with<F: Fn(Counts) -> Counts>(self, counted: F) -> Tally
+    pub(crate) fn with<F: Fn(Counts) -> Counts>(self, counted: F) -> Tally
         requires { F.IsAlwaysCallable counted }
     {
         Tally {

@@ -33,7 +33,7 @@ loop-part-preserved c =
     rw c.len-at.ensures (walked_on c.loop-part.invariant c.in-Some.ensures.steps c.in-Ok.ensures (sym some ∙ c.with_taken.ensures))
 
 pub returns-then-at-line : goal.returns-then-at-line
-returns-then-at-line c = walked_more c.loop-part.invariant c.in-None.ensures.steps.0 c.if-at-line.true
+returns-then-at-line c = walked_more c.loop-part.invariant c.in-None.ensures.steps.0 (omega (arith, c.if-at-line.true))
 
 pub returns : goal.returns
-returns c = walked_end c.loop-part.invariant c.in-None.ensures.steps.0 c.if-at-line.false
+returns c = walked_end c.loop-part.invariant c.in-None.ensures.steps.0 (omega (arith, c.if-at-line.false))

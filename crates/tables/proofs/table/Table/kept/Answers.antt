@@ -1,4 +1,4 @@
-use Rattle.std.proofs.Common.{ap, arith, ◌∙◌}
+use Rattle.std.proofs.Common.{refl, ap, arith, ◌∙◌}
 use Rattle.std.proofs.lemmas.Fn.{says_at}
 use Rattle.tables.specs.Entries.{only}
 use Rattle.tables.specs.Table.{table}
@@ -7,15 +7,15 @@ use Rattle.tables.proofs.table.Table.kept.Goals as goal
 use Rattle.tables.proofs.table.Table.kept.Goals.{then-stays, else-stays}
 
 pub loop-entry-init : goal.loop-entry-init
-loop-entry-init g c = starts c.empty-kept.ensures
+loop-entry-init g c = rw c.zero-entries.ensures (starts refl)
 
 pub loop-entry-preserved : goal.loop-entry-preserved
 loop-entry-preserved g c =
     let k = c.loop-entry.invariant in
     elim c.if-stays.branch [
-      | then-stays w ↦ rw w.kept-is (takes k c.loop-entry-test.true c.entry-item.is (says_at g.F.Fn c.stays.ensures w.if-stays.true) c.in_use-entries.ensures.few w.with-kept.ensures)
-      | else-stays w ↦ rw w.kept-is (passes k c.loop-entry-test.true c.entry-item.is (says_at g.F.Fn c.stays.ensures w.if-stays.false))
+      | then-stays w ↦ rw (w.entries-is, w.count-is) (takes k c.loop-entry-test.true c.entry-item.is (says_at g.F.Fn c.stays.ensures w.if-stays.true) c.in_use-used.ensures.few)
+      | else-stays w ↦ rw (w.entries-is, w.count-is) (passes k c.loop-entry-test.true c.entry-item.is (says_at g.F.Fn c.stays.ensures w.if-stays.false))
     ]
 
 pub returns : goal.returns
-returns g c = λ test computes. ends c.loop-entry.invariant (omega arith) test computes ∙ ap (λ xs. table g.E.Entry.zero (only test xs)) c.in_use-entries.ensures.value
+returns g c = λ test computes. ends c.loop-entry.invariant (omega arith) test computes ∙ ap (λ xs. table g.E.Entry.zero (only test xs)) c.in_use-used.ensures.value

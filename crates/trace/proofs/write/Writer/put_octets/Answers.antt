@@ -1,15 +1,5 @@
-use Rattle.std.proofs.Common.{◌∙◌, get_or, drop, ◌+◌}
-use Rattle.std.proofs.lemmas.List.{at_drop_more, at_drop_all}
-use Rattle.trace.specs.Texts.{octets_text}
-use Rattle.trace.proofs.Writers.{still_on, writes}
-use Rattle.trace.proofs.Written.{octets_on, octets_none}
+use Rattle.std.proofs.Common.{refl}
 use Rattle.trace.proofs.write.Writer.put_octets.Goals as goal
 
-pub loop-octet-preserved : goal.loop-octet-preserved
-loop-octet-preserved c =
-    let i = c.loop-octet.octet-index in
-    let os = c.args.octets.now in
-    still_on c.loop-octet.invariant c.put_octet.ensures (at_drop_more octets_text os i 0 c.loop-octet-test.true ∙ octets_on (get_or os i 0) (drop (i + 1) os))
-
 pub returns : goal.returns
-returns c = writes c.loop-octet.invariant (at_drop_all octets_text c.args.octets.now c.loop-octet.octet-index c.loop-octet-test.false ∙ octets_none)
+returns c = record { same_buffer = refl; wrote = c.put_octets-self.ensures }
