@@ -35,12 +35,13 @@ pub fn after_line(text: &[u8], at: usize) -> usize
     }
 }
 
-// What is left of a text's lines, in order, each without its LF; the last one may have none.
+// What is left of the lines of a text, in order.
 #[derive(Clone, Copy, Debug)]
 pub struct TextLines<'a> {
     rest: &'a [u8],
 }
 
+// The lines of a text, in order, each without its LF; the last one may have none. What programs read goes through these.
 pub fn lines_in(text: &[u8]) -> TextLines<'_>
     ensures { lines_left result ≡ lines_of text.now }
 {

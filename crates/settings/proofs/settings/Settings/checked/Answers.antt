@@ -5,7 +5,7 @@ use Rattle.octets.specs.Items.{whole_items}
 use Rattle.message.specs.Written.{list_fits, measured}
 use Rattle.settings.specs.Settings.{is_ethernet, refusal_of, lists_refusal, size_refusal, over_cap, listed_len, longest, longest_length, name_of, list_of, extra_of}
 use Rattle.settings.proofs.Refusals.{Counted, past_mtu, past_counts, not_whole, whole, over_cap_by}
-use Rattle.settings.proofs.settings.Settings.checked.Goals.{Else-ne, Else-self-gt-MTU_MOST, Else-is_some_and, Else-self-gt-EXTRA_LIMIT, After-is_some_and-2, then-self-lt-MTU_LEAST-via-then-self-lt-MTU_LEAST, then-self-lt-MTU_LEAST-via-else-self-lt-MTU_LEAST+then-self-gt-MTU_MOST}
+use Rattle.settings.proofs.settings.Settings.checked.Goals.{Else-ne, Else-self-gt-MTU_MOST, Else-is_some_and, Else-self-gt-EXTRA_LIMIT, After-is_some_and-2}
 use Rattle.settings.proofs.settings.Settings.checked.Goals as goal
 
 -- what is left to test
@@ -35,8 +35,8 @@ pub returns-then-self-lt-MTU_LEAST : goal.returns-then-self-lt-MTU_LEAST
 unfolding refusal_of
 returns-then-self-lt-MTU_LEAST c =
     if_false _ (ap not (ethernet (goal.at.returns-then-self-lt-MTU_LEAST c).Else-ne)) (elim c.then-self-lt-MTU_LEAST.branch [
-      | then-self-lt-MTU_LEAST-via-then-self-lt-MTU_LEAST w ↦ if_true _ (search tests) refl
-      | then-self-lt-MTU_LEAST-via-else-self-lt-MTU_LEAST+then-self-gt-MTU_MOST w ↦ if_false _ (search tests) (if_true _ (search tests) refl)
+      | goal.then-self-lt-MTU_LEAST-via-then-self-lt-MTU_LEAST w ↦ if_true _ (search tests) refl
+      | goal.then-self-lt-MTU_LEAST-via-else-self-lt-MTU_LEAST+then-self-gt-MTU_MOST w ↦ if_false _ (search tests) (if_true _ (search tests) refl)
     ])
 
 pub returns-then-self-gt-NAME_LIMIT : goal.returns-then-self-gt-NAME_LIMIT
