@@ -148,10 +148,10 @@ pub still_on : {text rest a b : List ℕ} {before now after : Writer} → Still 
 still_on s w e = record { same_buffer = w.same_buffer ∙ s.same_buffer; onward = onward s.onward w.wrote e }
 
 pub writes : {text rest : List ℕ} {before after : Writer} → Still text before rest after → rest ≡ [] → Writes text before after
-writes {text} {rest} {before} {after} s e = let o = subst (λ (l : List ℕ). Still text before l after) e s in record { same_buffer = o.same_buffer; wrote = written o.onward }
+writes s e = record { same_buffer = s.same_buffer; wrote = written_rest s.onward e }
 
 pub in_row : {a b : List ℕ} {x y z : Writer} → Writes a x y → Writes b y z → Writes (a ++ b) x z
 in_row f g = record { same_buffer = g.same_buffer ∙ f.same_buffer; wrote = row f.wrote g.wrote }
 
 pub writes_as : {a b : List ℕ} {x y : Writer} → Writes a x y → a ≡ b → Writes b x y
-writes_as {x = x} {y = y} w e = subst (λ (l : List ℕ). Writes l x y) e w
+writes_as w e = record { same_buffer = w.same_buffer; wrote = wrote_as w.wrote e }
